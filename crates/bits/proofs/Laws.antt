@@ -173,3 +173,8 @@ some-bit (suc w) {x} h =
     double : (n : ℕ) → eqb (n * 2 + 0) 0 ≡ eqb n 0
     double zero = refl
     double (suc n) = ne-eqb (suc n * 2 + 0) 0 (λ e. omega arith) ∙ sym (ne-eqb (suc n) 0 (λ e. omega arith))
+
+pub some-ext : (w : ℕ) {f g : ℕ → Bool} → ((i : ℕ) → i < w → f i ≡ g i) → some w f ≡ some w g
+unfolding some
+some-ext zero e = refl
+some-ext (suc w) e = ap₂ (λ (p q : Bool). p || q) (e zero (omega arith)) (some-ext w (λ i h. e (suc i) (omega arith)))

@@ -1,6 +1,6 @@
 -- What the code's bytes and words say of a pin. Assumes nothing.
 use mathlib.Core.Path.{_≡_, refl, sym, ap, _∙_}
-use mathlib.Core.Bool.{Bool, true, false, _&&_}
+use mathlib.Core.Bool.{Bool, true, false, _&&_, _||_}
 use mathlib.Core.List.{[], _∷_}
 use Prim.Native.Nat.{ℕ, zero, suc, _+_, _-_, _*_, _/_, _%_, _≤_, _<_, _^_}
 use native.Mathlib.Nat.{mod-lt, div-add-mod'}
@@ -8,10 +8,10 @@ use native.Mathlib.Numerals.{add-one}
 use native.Mathlib.Omega.{arith}
 use borrow.Author.Tests.{ltb-true, ltb-false}
 use lib.Bits.{bitAnd, bitOr}
-use lib.Dec.{ltb}
+use lib.Dec.{eqb, ltb}
 use lib.ListN.{getD}
 use Rattle.bits.specs.Bits.{bit, tabulate}
-use Rattle.bits.proofs.Decide.{each}
+use Rattle.bits.proofs.Decide.{each, taut}
 use Rattle.bits.proofs.Laws.{tabulate-lt, bit-tabulate, pin-of, bit-high, bit-ones}
 use Rattle.bits.proofs.Join.{joined}
 use Rattle.ports.specs.Ports.{bytesBit, evensOf, risingBit, fallingBit}
@@ -77,3 +77,36 @@ rising-bit b i q = ap (λ (x : ℕ). bit x (i % 4)) q ∙ bit-tabulate 4 (λ j. 
 pub falling-bit : (b i : ℕ) {e : ℕ} → e ≡ evensOf (b / 2) → bit e (i % 4) ≡ fallingBit b i
 unfolding bit
 falling-bit b i q = rising-bit (b / 2) i q ∙ ap (bit b) (sym (add-one (2 * (i % 4))))
+
+or-false : (b : Bool) → (b || false) ≡ b
+or-false = taut 1 _ _ tt
+
+-- six edge registers: the one that holds pin i says what the six say together
+module _ (a b c d e f j : ℕ) where
+  pub six : (q : ℕ) → q < 6
+      → ((((((eqb q 0 && bit a j) || (eqb q 1 && bit b j)) || (eqb q 2 && bit c j)) || (eqb q 3 && bit d j)) || (eqb q 4 && bit e j)) || (eqb q 5 && bit f j))
+      ≡ bit (getD (a ∷ b ∷ c ∷ d ∷ e ∷ f ∷ []) q 0) j
+  six zero h = simp or-false
+  six (suc zero) h = simp or-false
+  six (suc (suc zero)) h = simp or-false
+  six (suc (suc (suc zero))) h = simp or-false
+  six (suc (suc (suc (suc zero)))) h = simp or-false
+  six (suc (suc (suc (suc (suc zero))))) h = refl
+  six (suc (suc (suc (suc (suc (suc q)))))) h = absurd (omega arith)
+
+-- the high bits of the fields are the low bits of the registers shifted by one
+module _ (a b c d e f : ℕ) where
+  halves : (q : ℕ) → getD (a / 2 ∷ b / 2 ∷ c / 2 ∷ d / 2 ∷ e / 2 ∷ f / 2 ∷ []) q 0 ≡ getD (a ∷ b ∷ c ∷ d ∷ e ∷ f ∷ []) q 0 / 2
+  halves zero = refl
+  halves (suc zero) = refl
+  halves (suc (suc zero)) = refl
+  halves (suc (suc (suc zero))) = refl
+  halves (suc (suc (suc (suc zero)))) = refl
+  halves (suc (suc (suc (suc (suc zero))))) = refl
+  halves (suc (suc (suc (suc (suc (suc q)))))) = refl
+
+  pub high-bits : (i : ℕ)
+      → risingBit (getD (a / 2 ∷ b / 2 ∷ c / 2 ∷ d / 2 ∷ e / 2 ∷ f / 2 ∷ []) (i / 4) 0) i
+      ≡ fallingBit (getD (a ∷ b ∷ c ∷ d ∷ e ∷ f ∷ []) (i / 4) 0) i
+  unfolding bit
+  high-bits i = ap (λ (x : ℕ). bit x (2 * (i % 4))) (halves (i / 4)) ∙ ap (bit (getD (a ∷ b ∷ c ∷ d ∷ e ∷ f ∷ []) (i / 4) 0)) (sym (add-one (2 * (i % 4))))

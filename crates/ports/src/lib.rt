@@ -3,6 +3,7 @@ ghost use mathlib.Core.Path.{_≡_};
 ghost use mathlib.Core.Bool.{_&&_};
 ghost use mathlib.Core.List.{[], _∷_};
 ghost use Prim.Native.Nat.{ℕ, _/_, _%_, _<_, _^_};
+ghost use lib.ListN.{getD};
 ghost use Rattle.bits.specs.Bits.{bit};
 ghost use Rattle.ports.specs.Ports.{inPort, portBit, bytesBit, byteOf, inEdge, risingBit, fallingBit, evensOf};
 
@@ -85,4 +86,19 @@ pub fn falling_at(byte: u8, k: u8) -> u64
     ensures { λ s. ⌜ ((i : ℕ) → bit s i ≡ (inEdge k i && fallingBit byte i)) ⌝ }
 {
     at_edge(evens(byte >> 1), k)
+}
+
+// The pins whose field in six edge registers asks for rising edges, a of register 0.
+pub fn rising6(a: u8, b: u8, c: u8, d: u8, e: u8, f: u8) -> u64
+    ensures { λ s. ⌜ ((i : ℕ) → i < 24 → bit s i ≡ risingBit (getD (a ∷ b ∷ c ∷ d ∷ e ∷ f ∷ []) (i / 4) 0) i) ⌝ }
+{
+    let low = rising_at(a, 0) | rising_at(b, 1) | rising_at(c, 2);
+    low | rising_at(d, 3) | rising_at(e, 4) | rising_at(f, 5)
+}
+
+// And those whose field asks for falling ones.
+pub fn falling6(a: u8, b: u8, c: u8, d: u8, e: u8, f: u8) -> u64
+    ensures { λ s. ⌜ ((i : ℕ) → i < 24 → bit s i ≡ fallingBit (getD (a ∷ b ∷ c ∷ d ∷ e ∷ f ∷ []) (i / 4) 0) i) ⌝ }
+{
+    rising6(a >> 1, b >> 1, c >> 1, d >> 1, e >> 1, f >> 1)
 }

@@ -1,0 +1,91 @@
+-- The code's rows hold what the list of groups says, at each of the 128 numbers, which antt computes. Assumes nothing.
+use mathlib.Core.Path.{_≡_, refl, sym, ap, _∙_}
+use mathlib.Core.Bool.{Bool, true, not, cond, _||_}
+use mathlib.Core.List.{List, [], _∷_}
+use Prim.Native.Nat.{ℕ, _+_, _-_, _*_, _/_, _%_, _^_, _<_}
+use native.Mathlib.Nat.{mod-lt}
+use native.Mathlib.Omega.{arith}
+use lib.Bits.{bitAnd}
+use lib.Dec.{eqb}
+use lib.ListN.{getD}
+use Rattle.bits.proofs.Decide.{each}
+use Rattle.map.specs.Map.{Kind, part24, firstOf, kindAt, code, next}
+use Rattle.map.specs.Map.Kind.{Reserved, Input, Status, InputStatus, Configuration, Latch, Mask, PortKind, Edge, Clear, Output, Polarity, PinKind, Stored}
+
+abbrev pub kinds : List ℕ
+kinds =
+    0x0444_0bbb_0aaa_0111 ∷ 0x0000_0000_0000_0000 ∷ 0x0000_0000_0000_0000 ∷ 0x0000_0000_0000_0000
+    ∷ 0x0ddd_0555_00dd_dddd ∷ 0x0007_0222_0666_0ddd ∷ 0x0333_0999_0088_8888 ∷ 0x0000_0000_0ddd_0ccc ∷ []
+
+abbrev pub backs : List ℕ
+backs =
+    0x1300_1300_1300_1300 ∷ 0x1111_1111_1111_1111 ∷ 0x1111_1111_1111_1111 ∷ 0x1111_1111_1111_1111
+    ∷ 0x1300_1300_1160_0000 ∷ 0x1111_1300_1300_1300 ∷ 0x1300_1300_1160_0000 ∷ 0x1111_1111_1120_1300 ∷ []
+
+-- the digit of n
+abbrev pub digitAt : List ℕ → ℕ → ℕ
+digitAt rows n = bitAnd (getD rows (n / 16) 0 / 2 ^ (4 * (n % 16))) 15
+
+pub kinds-right : (n : ℕ) → n < 128 → digitAt kinds n ≡ code (kindAt part24 n)
+unfolding kindAt
+kinds-right = each 128 _ _ tt
+
+pub backs-right : (n : ℕ) → n < 128 → n + 1 - digitAt backs n ≡ next part24 n
+unfolding next
+backs-right = each 128 _ _ tt
+
+pub backs-fit : (n : ℕ) → n < 128 → n + 1 - digitAt backs n + digitAt backs n ≡ n + 1
+backs-fit = each 128 _ _ tt
+
+-- a kind is known by its number
+abbrev pub named : ℕ → Kind
+named n =
+    getD (Reserved ∷ Input ∷ Status ∷ InputStatus ∷ Configuration ∷ Latch ∷ Mask ∷ PortKind ∷ Edge ∷ Clear ∷ Output ∷ Polarity ∷ PinKind ∷ Stored ∷ []) n Reserved
+
+known : (k : Kind) → named (code k) ≡ k
+known Reserved = refl
+known Input = refl
+known Status = refl
+known InputStatus = refl
+known Configuration = refl
+known Latch = refl
+known Mask = refl
+known PortKind = refl
+known Edge = refl
+known Clear = refl
+known Output = refl
+known Polarity = refl
+known PinKind = refl
+known Stored = refl
+
+pub kind-is : (k : Kind) (c : ℕ) → c ≡ code k → k ≡ named c
+kind-is k c e = sym (known k) ∙ ap named (sym e)
+
+-- kinds whose registers hold a byte a port: the port's number is the last two bits of the register's
+abbrev pub ported : Kind → Bool
+ported k = not (eqb (code k) (code Reserved) || eqb (code k) (code PortKind) || eqb (code k) (code Edge) || eqb (code k) (code Stored))
+
+port-test : (n : ℕ) → n < 128 → cond (ported (kindAt part24 n)) (n % 4) 0 ≡ cond (ported (kindAt part24 n)) (n - firstOf part24 (kindAt part24 n)) 0
+unfolding kindAt
+port-test = each 128 _ _ tt
+
+pub port-at : (n : ℕ) → n < 128 → (k : Kind) → kindAt part24 n ≡ k → ported k ≡ true → n % 4 ≡ n - firstOf part24 k
+port-at n h k e t = rw (e, t) at (port-test n h)
+
+small-test : (n : ℕ) → n < 128 → cond (ported (kindAt part24 n)) (n % 4 % 3) 0 ≡ cond (ported (kindAt part24 n)) (n % 4) 0
+unfolding kindAt
+small-test = each 128 _ _ tt
+
+pub port-small : (n : ℕ) → n < 128 → (k : Kind) → kindAt part24 n ≡ k → ported k ≡ true → n % 4 < 3
+port-small n h k e t =
+    let m : n % 4 % 3 ≡ n % 4 = rw (e, t) at (small-test n h) in
+    let l : n % 4 % 3 < 3 = mod-lt (n % 4) (omega arith) in
+    omega arith
+
+-- an edge register's number in its group is the last three bits
+edge-test : (n : ℕ) → n < 128 → cond (eqb (code (kindAt part24 n)) (code Edge)) (n % 8) 0 ≡ cond (eqb (code (kindAt part24 n)) (code Edge)) (n - firstOf part24 Edge) 0
+unfolding kindAt
+edge-test = each 128 _ _ tt
+
+pub edge-at : (n : ℕ) → n < 128 → kindAt part24 n ≡ Edge → n % 8 ≡ n - firstOf part24 Edge
+edge-at n h e = rw e at (edge-test n h)

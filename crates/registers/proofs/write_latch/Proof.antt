@@ -1,0 +1,55 @@
+use borrow.Author.Needs.{needs}
+use mathlib.Core.Path.{refl, _∙_}
+use mathlib.Core.Bool.{_&&_}
+use Rattle.pins.specs.Pin.{latchWritten}
+use Rattle.pins.specs.AllPins.{pinAt}
+use Rattle.pins.specs.OnePin.{pinAfter}
+use Rattle.pins.specs.OnePin.Happening.{LatchWritten}
+use Rattle.pins.proofs.AllPins.{map-ext}
+use Rattle.ports.specs.Ports.{inPort, portBit}
+use Rattle.map.specs.Map.{part24}
+use Rattle.map.specs.Map.Kind.{Configuration, Latch}
+use Rattle.registers.specs.Registers.{groupBit, registersAt}
+use Rattle.registers.proofs.Writing.{written-here}
+use Rattle.registers.proofs.write_latch.Statement.{statement}
+use Rattle.registers.proofs.write_latch.Tie as tie
+
+group-requires : tie.Need-group-requires
+group-requires c κs = search needs
+
+group-requires-2 : tie.Need-group-requires-2
+group-requires-2 c κs = search needs
+
+port-set-requires : tie.Need-port-set-requires
+port-set-requires c κs = search needs
+
+at-port-requires : tie.Need-at-port-requires
+at-port-requires c κs = search needs
+
+write-latch-requires : tie.Need-write-latch-requires
+write-latch-requires c κs = search needs
+
+returns : tie.Need-returns
+unfolding pinAfter
+returns c =
+    let start = c .before .before .before .before .before in
+    let x = start .args in
+    c .write-latch .ensures 24 (start .pre .1)
+    ∙ map-ext 24 (x .x) _ _ (λ i h. cc (
+      c .before .at-port .ensures i,
+      c .before .before .port-set .ensures i,
+      c .before .before .before .group2 .ensures .0 i h,
+      c .before .before .before .before .group .ensures .0 i h,
+      written-here (inPort (x .k) i) (λ t. latchWritten (groupBit part24 (x .file .now) Configuration i) (groupBit part24 (x .file .now) Latch i) (t && portBit (x .v) i)) (LatchWritten (portBit (x .v) i)) (registersAt part24 (x .file .now) i) (pinAt (x .x) i) refl,
+    ))
+
+pub write-latch-spec : {M : Type 1} → statement M
+write-latch-spec =
+    tie.close
+    (tie.spec
+    group-requires
+    group-requires-2
+    port-set-requires
+    at-port-requires
+    write-latch-requires
+    returns)

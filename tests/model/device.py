@@ -1,0 +1,531 @@
+"""The 24-pin I2C expander as the rules state it: one pin at a time, one short function for each rule."""
+
+from collections import namedtuple
+
+PINS = 24
+SET_LIMIT = 1 << PINS
+
+IDLE, OPENED, CHOSEN, FILLING, SENDING, CALL, ARMED, DEAF = range(8)
+START, STOP, BYTE, FETCH, LEVELS, RESET = range(6)
+
+OUTPUT, POLARITY, CONFIGURATION = 0x04, 0x08, 0x0C
+LATCH, MASK, PORT_KIND, EDGE, PIN_KIND = 0x48, 0x54, 0x5C, 0x60, 0x70
+
+Group = namedtuple('Group', 'first last name default stored')
+
+GROUPS = (
+    Group(0x00, 0x02, 'input port', 0x00, False),
+    Group(0x04, 0x06, 'output', 0xFF, True),
+    Group(0x08, 0x0A, 'polarity', 0x00, True),
+    Group(0x0C, 0x0E, 'configuration', 0xFF, True),
+    Group(0x40, 0x45, 'drive strength', 0xFF, True),
+    Group(0x48, 0x4A, 'input latch', 0x00, True),
+    Group(0x4C, 0x4E, 'pull enable', 0x00, True),
+    Group(0x50, 0x52, 'pull select', 0xFF, True),
+    Group(0x54, 0x56, 'interrupt mask', 0xFF, True),
+    Group(0x58, 0x5A, 'interrupt status', 0x00, False),
+    Group(0x5C, 0x5C, 'output port kind', 0x00, True),
+    Group(0x60, 0x65, 'interrupt edge', 0x00, True),
+    Group(0x68, 0x6A, 'interrupt clear', 0x00, False),
+    Group(0x6C, 0x6E, 'input status', 0x00, False),
+    Group(0x70, 0x72, 'pin output kind', 0x00, True),
+    Group(0x74, 0x75, 'debounce enable', 0x00, True),
+    Group(0x76, 0x76, 'debounce count', 0x00, True),
+)
+
+TEN = (0x04, 0x05, 0x06, 0x0C, 0x0D, 0x0E, 0x5C, 0x70, 0x71, 0x72)
+
+Image = namedtuple('Image', 'registers level reference held edge pointer bus choice')
+
+
+def number_map(groups):
+    """The group of each command number, None where the number is reserved."""
+    found = [None] * 128
+    for group in groups:
+        for number in range(group.first, group.last + 1):
+            found[number] = group
+    return found
+
+
+def power_on(numbers):
+    """The register file after power-on: an entry without a stored value holds 0."""
+    return [group.default if group and group.stored else 0 for group in numbers]
+
+
+def pin_set(marks):
+    """The number whose bit i is mark i."""
+    return sum(1 << i for i, mark in enumerate(marks) if mark)
+
+
+class Pin:
+    __slots__ = ('level', 'reference', 'held', 'edge')
+
+    def __init__(self, level, reference, held, edge):
+        self.level, self.reference, self.held, self.edge = level, reference, held, edge
+
+
+class Device:
+    map = number_map(GROUPS)
+
+    def __init__(self, image):
+        self.registers = list(image.registers)
+        self.pins = [
+            Pin(*(bool(marks >> i & 1) for marks in (image.level, image.reference, image.held, image.edge)))
+            for i in range(PINS)
+        ]
+        self.pointer, self.bus, self.choice = image.pointer, image.bus, image.choice
+        # A device loaded from a broken image answers each step with refusal 3.
+        self.broken = self.image_broken(image)
+        # The outputs are worked out again only after something that can move them.
+        self.changed = True
+
+    @classmethod
+    def make(cls, choice, levels):
+        """A device at power-on, or refusal 2."""
+        if cls.make_too_large(choice, levels):
+            return ('refused', 2)
+        device = cls(Image([0] * 128, levels, 0, 0, 0, 0, IDLE, choice))
+        device.reset()
+        return device
+
+    def image(self):
+        return Image(
+            tuple(self.registers),
+            pin_set(pin.level for pin in self.pins),
+            pin_set(pin.reference for pin in self.pins),
+            pin_set(pin.held for pin in self.pins),
+            pin_set(pin.edge for pin in self.pins),
+            self.pointer, self.bus, self.choice)
+
+    # Refusals.
+
+    @staticmethod
+    def make_too_large(choice, levels):
+        """Refusal 2 of a new device: choice over 3, levels 2^24 or more."""
+        return choice > 3 or levels >= SET_LIMIT
+
+    def image_broken(self, image):
+        """Refusal 3: any one of the seven faults."""
+        return (self.pointer_broken(image.pointer)
+                or self.bus_broken(image.bus)
+                or self.choice_broken(image.choice)
+                or self.pin_sets_broken(image)
+                or self.port_kind_broken(image.registers[PORT_KIND])
+                or any(self.entry_broken(n, image.registers[n]) for n in range(128)))
+
+    def pointer_broken(self, pointer):
+        """A pointer over 7Fh or at a reserved number."""
+        return pointer > 0x7F or self.map[pointer] is None
+
+    def bus_broken(self, bus):
+        """There are eight bus states."""
+        return bus > 7
+
+    def choice_broken(self, choice):
+        """There are four addresses."""
+        return choice > 3
+
+    def pin_sets_broken(self, image):
+        """A pin set knows 24 pins."""
+        return any(marks >= SET_LIMIT for marks in (image.level, image.reference, image.held, image.edge))
+
+    def port_kind_broken(self, value):
+        """5C has one bit for each of three ports."""
+        return value > 7
+
+    def entry_broken(self, number, value):
+        """A nonzero entry where nothing is stored."""
+        group = self.map[number]
+        return value != 0 and (group is None or not group.stored)
+
+    def refusal(self, kind, arg):
+        """The image first, then the kind, then the argument; None if the step is taken."""
+        if self.broken:
+            return 3
+        if self.kind_unknown(kind):
+            return 1
+        if self.argument_too_large(kind, arg):
+            return 2
+        return None
+
+    def kind_unknown(self, kind):
+        """Kinds are 0 to 5."""
+        return kind > 5
+
+    def argument_too_large(self, kind, arg):
+        """Byte over 255, acknowledge bit over 1, levels 2^24 or more; the other kinds ignore it."""
+        if kind == BYTE:
+            return arg > 255
+        if kind == FETCH:
+            return arg > 1
+        if kind == LEVELS:
+            return arg >= SET_LIMIT
+        return False
+
+    # Events.
+
+    def step(self, kind, arg):
+        """('refused', n) with nothing changed, or the answer: '-', 'ack', 'nak' or a byte."""
+        number = self.refusal(kind, arg)
+        if number is not None:
+            return ('refused', number)
+        if kind == START:
+            self.start()
+        elif kind == STOP:
+            self.stop()
+        elif kind == BYTE:
+            return self.byte(arg)
+        elif kind == FETCH:
+            return self.fetch(arg == 1)
+        elif kind == LEVELS:
+            self.levels([bool(arg >> i & 1) for i in range(PINS)])
+        else:
+            self.reset()
+        return '-'
+
+    def start(self):
+        """START opens a transaction from any state; the pointer stays."""
+        self.bus = OPENED
+
+    def stop(self):
+        """STOP ends it; an armed general call resets the device first."""
+        if self.bus == ARMED:
+            self.reset()
+        self.bus = IDLE
+
+    def byte(self, value):
+        if self.bus == OPENED:
+            return self.opened_byte(value)
+        if self.bus == CHOSEN:
+            return self.chosen_byte(value)
+        if self.bus == FILLING:
+            return self.filling_byte(value)
+        if self.bus == CALL:
+            return self.call_byte(value)
+        if self.bus == ARMED:
+            return self.armed_byte(value)
+        if self.bus == SENDING:
+            return self.sending_byte(value)
+        return self.unheard_byte(value)
+
+    def address(self):
+        """Choices 0 to 3 are the seven-bit addresses 20h to 23h."""
+        return 0x20 + self.choice
+
+    def opened_byte(self, value):
+        """The own address to write or to read, the general call, or someone else's."""
+        if value == 2 * self.address():
+            self.bus = CHOSEN
+        elif value == 2 * self.address() + 1:
+            self.bus = SENDING
+        elif value == 0x00:
+            self.bus = CALL
+        else:
+            self.bus = DEAF
+            return 'nak'
+        return 'ack'
+
+    def command(self, value):
+        """The register a command byte names, None if reserved or above 7Fh."""
+        return value if value <= 0x7F and self.map[value] is not None else None
+
+    def chosen_byte(self, value):
+        """A known command becomes the pointer; another leaves the pointer and deafens."""
+        number = self.command(value)
+        if number is None:
+            self.bus = DEAF
+            return 'nak'
+        self.pointer = number
+        self.bus = FILLING
+        return 'ack'
+
+    def filling_byte(self, value):
+        """A data byte is written at the pointer, which then steps."""
+        self.write(self.pointer, value)
+        self.changed = True
+        self.pointer = self.next_number(self.pointer)
+        return 'ack'
+
+    def call_byte(self, value):
+        """After the general call only 06h is known, and it only arms."""
+        self.bus = ARMED if value == 0x06 else DEAF
+        return 'ack' if value == 0x06 else 'nak'
+
+    def armed_byte(self, value):
+        """A further byte spoils the software reset."""
+        self.bus = DEAF
+        return 'nak'
+
+    def sending_byte(self, value):
+        """The device is sending, so a byte from the master is nothing it knows."""
+        self.bus = DEAF
+        return 'nak'
+
+    def unheard_byte(self, value):
+        """Idle and Deaf: nobody listens."""
+        return 'nak'
+
+    def next_number(self, number):
+        """The next number of the group, from the last back to the first; a group of one stays."""
+        group = self.map[number]
+        return group.first if number == group.last else number + 1
+
+    def fetch(self, acknowledged):
+        """The byte at the pointer; it is formed before its pins are settled."""
+        if self.bus != SENDING:
+            return self.stray_fetch()
+        value = self.byte_at(self.pointer)
+        for i in self.settled_by_fetch(self.pointer, acknowledged):
+            self.settle(i)
+            self.changed = True
+        self.after_fetch(acknowledged)
+        return value
+
+    def stray_fetch(self):
+        """Nobody drives the line, so it reads as ones."""
+        return 0xFF
+
+    def settled_by_fetch(self, number, acknowledged):
+        """An input port register settles its own eight pins, acknowledged or not."""
+        if self.map[number].name == 'input port':
+            return self.pins_of(number)
+        return ()
+
+    def after_fetch(self, acknowledged):
+        """Acknowledged, the pointer steps; not acknowledged, the master has ended the read."""
+        if acknowledged:
+            self.pointer = self.next_number(self.pointer)
+        else:
+            self.bus = DEAF
+
+    def levels(self, new):
+        """Each pin's marks are judged by its old level, then it takes the new one."""
+        for i, level in enumerate(new):
+            pin = self.pins[i]
+            if self.level_sets_held(i, level):
+                pin.held = True
+            if self.level_sets_edge(i, level):
+                pin.edge = True
+            self.take_level(i, level)
+        self.changed = True
+
+    def level_sets_held(self, i, new):
+        """A latched input that leaves its reference is held."""
+        return new != self.pins[i].reference and self.is_input(i) and self.latched(i)
+
+    def level_sets_edge(self, i, new):
+        """An unmasked input records a change that matches its field."""
+        old = self.pins[i].level
+        return self.change_matches(self.field(i), old, new) and self.is_input(i) and not self.masked(i)
+
+    def change_matches(self, field, old, new):
+        """Field 01 rising, 10 falling, 11 either, 00 none."""
+        if new and not old:
+            return field in (1, 3)
+        if old and not new:
+            return field in (2, 3)
+        return False
+
+    def take_level(self, i, new):
+        """Outputs take their level too."""
+        self.pins[i].level = new
+
+    # Resets.
+
+    def reset(self):
+        """Defaults, pointer 00h, Idle, nothing held; levels and address stay."""
+        self.registers = self.reset_registers()
+        self.pointer = self.reset_pointer()
+        self.bus = self.reset_bus()
+        for i in range(PINS):
+            self.reset_pin(i)
+        self.changed = True
+
+    def reset_registers(self):
+        return power_on(self.map)
+
+    def reset_pointer(self):
+        return 0x00
+
+    def reset_bus(self):
+        return IDLE
+
+    def reset_pin(self, i):
+        """The present level is the new reference and no event is held."""
+        pin = self.pins[i]
+        pin.reference = pin.level
+        pin.held = pin.edge = False
+
+    # Registers of one pin.
+
+    def bit(self, first, i):
+        """Pin 8k+j is bit j of the register of port k."""
+        return self.registers[first + i // 8] >> i % 8 & 1 == 1
+
+    def is_input(self, i):
+        return self.bit(CONFIGURATION, i)
+
+    def latched(self, i):
+        return self.bit(LATCH, i)
+
+    def masked(self, i):
+        return self.bit(MASK, i)
+
+    def inverted(self, i):
+        return self.bit(POLARITY, i)
+
+    def field(self, i):
+        """Two bits a pin, four pins a register, the lowest pin in bits 1 and 0."""
+        return self.registers[EDGE + i // 4] >> 2 * (i % 4) & 3
+
+    def pins_of(self, number):
+        """The eight pins of a register that has one bit a pin."""
+        port = number - self.map[number].first
+        return range(8 * port, 8 * port + 8)
+
+    # Writes.
+
+    def write(self, number, value):
+        """The pins follow the rule of the group, then the value is stored."""
+        name = self.map[number].name
+        if name == 'interrupt edge':
+            first = 4 * (number - EDGE)
+            for j in range(4):
+                self.field_written(first + j, value >> 2 * j & 3)
+        elif name in ('interrupt clear', 'interrupt mask', 'input latch', 'configuration'):
+            for j, i in enumerate(self.pins_of(number)):
+                old, new = self.registers[number] >> j & 1, value >> j & 1
+                if name == 'interrupt clear':
+                    self.clear_written(i, new)
+                elif name == 'interrupt mask':
+                    self.mask_written(i, new)
+                elif name == 'input latch':
+                    self.latch_written(i, old, new)
+                else:
+                    self.configuration_written(i, old, new)
+        self.store(number, value)
+
+    def store(self, number, value):
+        """A register without a stored value takes the write and keeps nothing."""
+        if self.map[number].stored:
+            self.registers[number] = self.kept(number, value)
+
+    def kept(self, number, value):
+        """5C has three bits; bits 3 to 7 are ignored."""
+        return value & 7 if number == PORT_KIND else value
+
+    def settle(self, i):
+        """No mark is left and the present level is the reference."""
+        pin = self.pins[i]
+        pin.edge = pin.held = False
+        pin.reference = pin.level
+
+    def clear_written(self, i, new):
+        """1 settles that pin alone, 0 does nothing."""
+        if new:
+            self.settle(i)
+
+    def mask_written(self, i, new):
+        """1 forgets the edge mark, and only that."""
+        if new:
+            self.pins[i].edge = False
+
+    def field_written(self, i, new):
+        """Field 00 forgets the edge mark, another field keeps it."""
+        if new == 0:
+            self.pins[i].edge = False
+
+    def latch_written(self, i, old, new):
+        """0 lets go; from 0 to 1 an input holds what is pending and an output holds nothing."""
+        pin = self.pins[i]
+        if not new:
+            pin.held = False
+        elif not old:
+            pin.held = self.is_input(i) and pin.level != pin.reference
+
+    def configuration_written(self, i, old, new):
+        """An output has no marks; a pin that becomes an input starts quiet."""
+        if not new:
+            self.pins[i].held = self.pins[i].edge = False
+        elif not old:
+            self.settle(i)
+
+    # What is seen of a pin.
+
+    def open_drain(self, i):
+        """The pin's own bit flips its port's bit."""
+        return bool(self.registers[PORT_KIND] >> i // 8 & 1) != self.bit(PIN_KIND, i)
+
+    def drive(self, i):
+        if self.is_input(i):
+            return 'released'
+        if not self.bit(OUTPUT, i):
+            return 'low'
+        return 'released' if self.open_drain(i) else 'high'
+
+    def drives(self):
+        return [self.drive(i) for i in range(PINS)]
+
+    def input_bit(self, i):
+        """Outputs show their level, open-drain ones 0; inputs the held or present level, perhaps inverted."""
+        if self.is_input(i):
+            return self.raw_bit(i) != self.inverted(i)
+        return self.pins[i].level and not self.open_drain(i)
+
+    def raw_bit(self, i):
+        """A held pin shows the level it went to, which is not its reference."""
+        pin = self.pins[i]
+        return not pin.reference if self.latched(i) and pin.held else pin.level
+
+    def input_status_bit(self, i):
+        """The same bit as the input port."""
+        return self.input_bit(i)
+
+    def pending(self, i):
+        """With an edge field the edge mark counts; else the hold if latched, the difference if not."""
+        pin = self.pins[i]
+        if self.field(i) != 0:
+            return pin.edge
+        return pin.held if self.latched(i) else pin.level != pin.reference
+
+    def status_bit(self, i):
+        """Only an unmasked input can ask for attention."""
+        return self.is_input(i) and not self.masked(i) and self.pending(i)
+
+    def asserted(self):
+        """INT is asserted exactly if some status bit is 1."""
+        return any(self.status_bit(i) for i in range(PINS))
+
+    def byte_at(self, number):
+        """The byte a fetch shows: three groups are formed from the pins, the rest is the file."""
+        name = self.map[number].name
+        if name == 'input port':
+            return pin_set(self.input_bit(i) for i in self.pins_of(number))
+        if name == 'input status':
+            return pin_set(self.input_status_bit(i) for i in self.pins_of(number))
+        if name == 'interrupt status':
+            return pin_set(self.status_bit(i) for i in self.pins_of(number))
+        return self.registers[number]
+
+    def outputs(self):
+        """INT (1 quiet, 0 asserted), the pins driven low, the pins driven high."""
+        if self.changed:
+            drives = self.drives()
+            self.shown = (0 if self.asserted() else 1,
+                          pin_set(drive == 'low' for drive in drives),
+                          pin_set(drive == 'high' for drive in drives))
+            self.changed = False
+        return self.shown
+
+
+def settings_image(setting, rest):
+    """The image `rest` with the planner's ten registers set to the ten bytes of `setting`."""
+    registers = list(rest.registers)
+    for number, value in zip(TEN, setting):
+        registers[number] = value
+    return rest._replace(registers=tuple(registers))
+
+
+def settings_drives(setting):
+    """The drive of each pin under the ten bytes of a setting."""
+    return Device(settings_image(setting, Device.make(0, 0).image())).drives()

@@ -1,0 +1,48 @@
+"""The probe program: one step on one state image for each line of standard input."""
+
+import re
+import sys
+
+from device import Device, Image
+from trace import UNREADABLE, answer_line, split_lines
+
+# Registers, level, reference, held, edge, pointer, bus state, address choice, kind, argument.
+WIDTHS = (256, 16, 16, 16, 16, 2, 2, 2, 8, 16)
+LINE = re.compile(b'\t'.join(b'([0-9a-f]{%d})' % width for width in WIDTHS))
+
+
+def read_line(line):
+    """(image, kind, argument), None if unreadable."""
+    found = LINE.fullmatch(line)
+    if not found:
+        return None
+    registers = tuple(bytes.fromhex(found.group(1).decode()))
+    numbers = [int(field, 16) for field in found.groups()[1:]]
+    return Image(registers, *numbers[:7]), numbers[7], numbers[8]
+
+
+def image_fields(image):
+    """The eight fields of an image as text."""
+    numbers = ['%0*x' % (width, number) for width, number in zip(WIDTHS[1:], image[1:])]
+    return '\t'.join([bytes(image.registers).hex()] + numbers)
+
+
+def run_lines(lines, device_class=Device):
+    out = []
+    for line in split_lines(lines):
+        read = read_line(line)
+        if read is None:
+            out.append(UNREADABLE)
+            continue
+        image, kind, arg = read
+        device = device_class(image)
+        answer = device.step(kind, arg)
+        if isinstance(answer, tuple):
+            out.append(b'refused\t%d\n' % answer[1])
+        else:
+            out.append(('%s\t%s\n' % (answer_line(answer, device), image_fields(device.image()))).encode())
+    return b''.join(out)
+
+
+if __name__ == '__main__':
+    sys.stdout.buffer.write(run_lines(sys.stdin.buffer.read()))

@@ -1,0 +1,406 @@
+"""The model held against the worked example, the bench points and its own readings: python3 selftest.py."""
+
+import random
+import sys
+import time
+
+import generate
+import judge
+import probe
+import trace
+from device import (ARMED, BYTE, CALL, DEAF, FETCH, GROUPS, IDLE, LEVELS, OPENED, RESET, SENDING, SET_LIMIT, START, STOP,
+                    TEN, Device, Image)
+
+EXAMPLE_IN = b'device\t2\t000000\nstart\nbyte\t44\nbyte\t54\nbyte\tfe\npins\t000001\n'
+EXAMPLE_OUT = (b'answer\tint\tlow\thigh\n'
+               b'-\t1\t000000\t000000\n'
+               b'-\t1\t000000\t000000\n'
+               b'ack\t1\t000000\t000000\n'
+               b'ack\t1\t000000\t000000\n'
+               b'ack\t1\t000000\t000000\n'
+               b'-\t0\t000000\t000000\n')
+
+
+class Bench:
+    """A device and a master that talks to it."""
+
+    def __init__(self, levels=0, choice=0):
+        self.device = Device.make(choice, levels)
+
+    def address(self, read=0):
+        assert self.device.step(START, 0) == '-'
+        assert self.device.step(BYTE, 2 * (0x20 + self.device.choice) + read) == 'ack'
+
+    def write(self, number, *values):
+        self.address()
+        for value in (number,) + values:
+            assert self.device.step(BYTE, value) == 'ack'
+
+    def read(self, number, acknowledged=0):
+        self.write(number)
+        self.address(1)
+        return self.device.step(FETCH, acknowledged)
+
+    def pins(self, levels):
+        assert self.device.step(LEVELS, levels) == '-'
+
+    def quiet(self):
+        return self.device.outputs()[0] == 1
+
+    def pointer_after(self, number):
+        self.write(number, 0)
+        return self.device.pointer
+
+
+def test_worked_example():
+    assert trace.run_log(EXAMPLE_IN) == EXAMPLE_OUT
+    assert trace.run_log(EXAMPLE_IN[:-1]) == EXAMPLE_OUT
+
+
+def test_trace_reader():
+    header = trace.HEADER
+    ok = b'-\t1\t000000\t000000\n'
+    no = b'refused\t7\n'
+    for log, lines in (
+            (b'', b''),
+            (b'\n', no),
+            (b'start', no),
+            (b'start\ndevice\t0\t000000\nstart', no + ok + ok),
+            (b'device\t4\t000000\nstart\n', no + no),
+            (b'device\t0\t000000\ndevice\t4\t000000\nstart\n', ok + no + ok),
+            (b'device\t0\t000000\nstart\r\nstop\n', ok + no + ok),
+            (b'device\t0\t000000\nbyte\tFF\nbyte\t0\nbyte\t00\t\nstart \n\n', ok + no * 5),
+            (b'device\t0\t000000\n' + b'x' * 33 + b'\n' + b'stop' * 9000 + b'\nstop', ok + no * 2 + ok),
+            (b'device\t0\t000000\nfetch\t2\nfetch\t0\n', ok + no + b'ff\t1\t000000\t000000\n'),
+            (b'device\t0\tffffff\npins\t1000000\npins\tffffff\n', ok + no + ok)):
+        assert trace.run_log(log) == header + lines, log
+
+
+def test_drives():
+    bench = Bench()
+    bench.write(0x0C, 0xFE)
+    assert bench.device.drive(0) == 'high'
+    bench.write(0x70, 0x01)
+    assert bench.device.drive(0) == 'released'
+    bench.write(0x5C, 0x01)
+    assert bench.device.drive(0) == 'high'
+    bench.write(0x70, 0x00)
+    assert bench.device.drive(0) == 'released'
+    bench.write(0x04, 0xFE)
+    assert bench.device.outputs() == (1, 1, 0)
+    bench.write(0x5C, 0xFF)
+    assert bench.read(0x5C) == 0x07
+
+
+def test_pointer():
+    bench = Bench()
+    for number, after in ((0x02, 0x00), (0x45, 0x40), (0x65, 0x60), (0x75, 0x74), (0x5C, 0x5C), (0x76, 0x76),
+                          (0x74, 0x75), (0x00, 0x01), (0x6A, 0x68), (0x0E, 0x0C)):
+        assert bench.pointer_after(number) == after
+    bench.write(0x48)
+    bench.device.step(STOP, 0)
+    bench.address(1)
+    assert bench.device.step(FETCH, 0) == 0x00
+    assert (bench.device.pointer, bench.device.bus) == (0x48, DEAF)
+    assert bench.device.step(FETCH, 1) == 0xFF
+    bench.address(1)
+    bench.device.step(FETCH, 1)
+    assert (bench.device.pointer, bench.device.bus) == (0x49, SENDING)
+
+
+def test_latched_pulse():
+    bench = Bench()
+    bench.write(0x48, 0x01)
+    bench.write(0x54, 0xFE)
+    bench.pins(1)
+    bench.pins(0)
+    assert not bench.quiet()
+    assert bench.read(0x6C) == 0x01 and not bench.quiet()
+    assert bench.read(0x58) == 0x01 and not bench.quiet()
+    assert bench.read(0x00) == 0x01 and bench.quiet()
+    assert bench.read(0x00) == 0x00
+
+
+def test_unlatched_pulse():
+    bench = Bench()
+    bench.write(0x54, 0xFE)
+    bench.pins(1)
+    assert not bench.quiet()
+    bench.pins(0)
+    assert bench.quiet()
+
+
+def test_rising_field():
+    bench = Bench()
+    bench.write(0x60, 0x01)
+    bench.write(0x54, 0xFE)
+    bench.pins(1)
+    bench.pins(0)
+    assert not bench.quiet()
+    bench.write(0x68, 0xFE)
+    assert not bench.quiet()
+    bench.write(0x68, 0x01)
+    assert bench.quiet()
+    bench.write(0x54, 0xFF)
+    bench.pins(1)
+    bench.pins(0)
+    bench.write(0x54, 0xFE)
+    assert bench.quiet()
+
+
+def test_general_call():
+    for events, reset in ((((STOP, 0),), True), (((START, 0), (STOP, 0)), False), (((BYTE, 6), (STOP, 0)), False),
+                          (((LEVELS, 5), (FETCH, 0), (STOP, 0)), True)):
+        bench = Bench()
+        bench.write(0x04, 0x12)
+        device = bench.device
+        device.step(START, 0)
+        assert device.step(BYTE, 0x00) == 'ack' and device.bus == CALL
+        assert device.step(BYTE, 0x06) == 'ack' and device.bus == ARMED
+        for event in events:
+            device.step(*event)
+        assert device.bus == IDLE
+        assert device.registers[0x04] == (0xFF if reset else 0x12)
+        assert (device.pointer == 0x00) == reset
+
+
+def test_addresses_and_commands():
+    for choice in range(4):
+        device = Device.make(choice, 0)
+        for value in range(256):
+            device.step(START, 0)
+            assert device.bus == OPENED
+            mine = value in (0x40 + 2 * choice, 0x41 + 2 * choice, 0x00)
+            assert device.step(BYTE, value) == ('ack' if mine else 'nak')
+    bench = Bench()
+    known = {n for group in GROUPS for n in range(group.first, group.last + 1)}
+    assert len(known) == 52 and 0x03 not in known and 0x77 not in known
+    for value in range(256):
+        bench.address()
+        assert bench.device.step(BYTE, value) == ('ack' if value in known else 'nak')
+    assert bench.device.pointer == 0x76
+
+
+def test_reset():
+    bench = Bench(levels=0xF0F0F0, choice=3)
+    bench.write(0x54, 0, 0, 0)
+    bench.write(0x48, 0xFF)
+    bench.pins(0x0F0F0F)
+    assert not bench.quiet()
+    bench.device.step(RESET, 0)
+    image = bench.device.image()
+    assert image == Device.make(3, 0x0F0F0F).image() and image.bus == IDLE and image.pointer == 0
+    assert (image.held, image.edge, image.reference) == (0, 0, 0x0F0F0F)
+
+
+def test_polarity_is_not_an_event():
+    bench = Bench()
+    bench.write(0x54, 0x00)
+    bench.write(0x08, 0xFF)
+    assert bench.quiet() and bench.read(0x6C) == 0xFF and bench.read(0x00) == 0xFF and bench.quiet()
+
+
+def test_configuration():
+    bench = Bench()
+    bench.write(0x54, 0xFC)
+    bench.write(0x48, 0x02)
+    bench.pins(3)
+    assert bench.read(0x58) == 0x03
+    bench.write(0x0C, 0xFC)
+    assert bench.quiet()
+    bench.pins(0)
+    bench.pins(3)
+    bench.write(0x0C, 0xFF)
+    assert bench.quiet() and bench.device.image().reference == 3
+    assert bench.read(0x00) == 0x03
+
+
+def test_limits():
+    assert Device.make(0, 0xFFFFFF).image().level == 0xFFFFFF
+    assert Device.make(0, 0x1000000) == ('refused', 2)
+    assert Device.make(4, 0) == ('refused', 2)
+    device = Device.make(0, 0)
+    before = device.image()
+    for kind, arg, number in ((6, 0, 1), (1 << 31, 1 << 40, 1), (BYTE, 256, 2), (FETCH, 2, 2), (LEVELS, SET_LIMIT, 2)):
+        assert device.step(kind, arg) == ('refused', number) and device.image() == before
+    for kind, arg in ((BYTE, 255), (FETCH, 1), (LEVELS, SET_LIMIT - 1), (START, 1 << 63), (STOP, 1 << 63), (RESET, 1 << 63)):
+        assert not isinstance(device.step(kind, arg), tuple)
+
+
+def test_broken_images():
+    sound = Device.make(1, 5).image()
+
+    def entry(number, value):
+        registers = list(sound.registers)
+        registers[number] = value
+        return sound._replace(registers=tuple(registers))
+
+    for image in (sound._replace(pointer=0x03), sound._replace(pointer=0x7F), sound._replace(pointer=0x80),
+                  sound._replace(bus=8), sound._replace(choice=4), sound._replace(level=SET_LIMIT),
+                  sound._replace(reference=SET_LIMIT), sound._replace(held=SET_LIMIT), sound._replace(edge=SET_LIMIT),
+                  entry(0x5C, 8), entry(0x00, 1), entry(0x03, 1), entry(0x58, 1), entry(0x69, 128), entry(0x6E, 1),
+                  entry(0x7F, 1)):
+        for kind, arg in ((START, 0), (6, 0), (BYTE, 256)):
+            assert Device(image).step(kind, arg) == ('refused', 3), image
+    for image in (sound, sound._replace(bus=7), sound._replace(choice=3), entry(0x5C, 7), sound._replace(edge=SET_LIMIT - 1),
+                  sound._replace(pointer=0x76)):
+        assert Device(image).step(START, 0) == '-'
+
+
+def test_probe_reader():
+    line = (probe.image_fields(Device.make(2, 5).image()) + '\t00000000\t0000000000000000').encode()
+    after = Device.make(2, 5)
+    after.step(START, 0)
+    answer = ('-\t1\t000000\t000000\t' + probe.image_fields(after.image())).encode() + b'\n'
+    assert probe.run_lines(line) == probe.run_lines(line + b'\n') == answer
+    assert probe.run_lines(b'') == b''
+    rng = random.Random(1)
+    for _ in range(200):
+        assert probe.run_lines(generate.spoiled_line(rng, line) + b'\n') == b'refused\t7\n'
+
+
+def test_images_come_back():
+    """An image is what its fields say, so that a step that changes nothing gives it back."""
+    rng = random.Random(2)
+    for _ in range(200):
+        read = probe.read_line(generate.image_line(rng)[:-1])
+        if read and not Device(read[0]).broken:
+            assert Device(read[0]).image() == read[0]
+
+
+# The planner.
+
+def setting(**bits):
+    """All pins inputs with output 1, but for the bytes given by register."""
+    values = dict.fromkeys(TEN, 0xFF)
+    values.update({0x5C: 0, 0x70: 0, 0x71: 0, 0x72: 0})
+    values.update({int(name[1:], 16): value for name, value in bits.items()})
+    return bytes(values[number] for number in TEN)
+
+
+def test_plan_bench_points():
+    high = setting(r0c=0xFE), setting(r0c=0xFE, r5c=1, r70=1)
+    assert judge.judge(*high, 'refused\t4') is None
+    assert judge.judge(*high, 'plan\t5c01\t7001') is not None
+    low = setting(r04=0xFE, r0c=0xFE), setting(r04=0xFE, r0c=0xFE, r5c=1, r70=1)
+    assert judge.judge(*low, 'plan\t5c01\t7001') is None
+    assert judge.judge(*low, 'refused\t4') is not None
+    swap = setting(r04=0xFD, r0c=0xFE), setting(r04=0xFE, r0c=0xFD)
+    assert judge.judge(*swap, 'plan\t04ff\t0cfd\t04fe') is None
+    for answer in ('plan\t04fe\t0cfd', 'plan\t0cfd\t04fe', 'refused\t4'):
+        assert judge.judge(*swap, answer) is not None
+
+
+def test_judge_finds_faults():
+    start, goal = setting(r0c=0xFC), setting(r04=0xFE, r0c=0xFC)
+    assert judge.judge(start, goal, 'plan\t04fe') is None
+    for answer in ('', 'plan', 'plan ', 'plan\t04fd', 'plan\t04fe\t04fe', 'plan\t04fe\t04ff\t04fe', 'plan\t04fc\t04fe',
+                   'plan\t08ff\t04fe', 'plan\t0cfd\t04fe\t0cfc', 'plan\t0cf8\t04fe\t0cfc', 'plan\t5c08\t04fe', 'plan\t4c01\t04fe',
+                   'plan\t03ff\t04fe', 'plan\t4fe', 'plan\t04FE', 'refused\t4', 'refused\t5', 'refused\t7',
+                   'plan' + '\t7101\t7100' * 8 + '\t04fe'):
+        assert judge.judge(start, goal, answer) is not None, answer
+    assert judge.judge(start, goal, 'plan' + '\t7101\t7100' * 7 + '\t04fe') is None
+    assert judge.judge(start, start, 'plan') is None
+    assert judge.judge(start, start, 'plan\t7101\t7100') is not None
+    for ends in ((start[:9], goal), (start, goal + b'\0'), (start, setting(r5c=8)), (b'', goal)):
+        assert judge.judge(*ends, 'refused\t5') is None
+        assert judge.judge(*ends, 'plan') is not None
+        assert judge.judge(*ends, 'refused\t4') is not None
+
+
+def whole_search(width, ports, start, goal):
+    """Breadth-first over whole registers, any value at each write, for `ports` ports of `width` pins.
+
+    A setting is one (outputs, configurations, kinds) a port, then the port bits, all as numbers.
+    """
+
+    def bits(setting, port, j):
+        own = setting[3 * port:3 * port + 3]
+        return tuple(value >> j & 1 for value in own) + (setting[-1] >> port & 1,)
+
+    ends = [(bits(start, k, j), bits(goal, k, j)) for k in range(ports) for j in range(width)]
+
+    def quiet(before, after):
+        places = ((k, j) for k in range(ports) for j in range(width))
+        return all(judge.move_allowed(*end, bits(before, k, j), bits(after, k, j)) for end, (k, j) in zip(ends, places))
+
+    sizes = [1 << width] * (3 * ports) + [1 << ports]
+    reached, fresh = {start}, [start]
+    while fresh:
+        if goal in reached:
+            return True
+        following = []
+        for before in fresh:
+            for place, size in enumerate(sizes):
+                for value in range(size):
+                    after = before[:place] + (value,) + before[place + 1:]
+                    if after not in reached and quiet(before, after):
+                        reached.add(after)
+                        following.append(after)
+        fresh = following
+    return goal in reached
+
+
+def by_pins(width, ports, start, goal):
+    """The judge's search on the same small device."""
+    def pins(setting, port):
+        own = setting[3 * port:3 * port + 3]
+        return [tuple(value >> j & 1 for value in own) + (setting[-1] >> port & 1,) for j in range(width)]
+    return all(judge.port_exists(pins(start, k), pins(goal, k)) for k in range(ports))
+
+
+def all_settings(width, ports):
+    found = [()]
+    for size in [1 << width] * (3 * ports) + [1 << ports]:
+        found = [setting + (value,) for setting in found for value in range(size)]
+    return found
+
+
+def test_search_by_pins_is_right():
+    """All ports of one and two pins; samples of ports of three pins and of two ports of one pin."""
+    for width in (1, 2):
+        settings = all_settings(width, 1)
+        for start in settings:
+            for goal in settings:
+                assert whole_search(width, 1, start, goal) == by_pins(width, 1, start, goal), (start, goal)
+    rng = random.Random(3)
+    for width, ports, count in ((1, 2, 3000), (3, 1, 1000)):
+        settings = all_settings(width, ports)
+        for _ in range(count):
+            start, goal = rng.choice(settings), rng.choice(settings)
+            assert whole_search(width, ports, start, goal) == by_pins(width, ports, start, goal), (start, goal)
+
+
+def test_exists_in_one_sentence():
+    """What the search finds: hopeless exactly if a pin is high at both ends and its port's bit changes."""
+    rng = random.Random(4)
+    for _ in range(3000):
+        start, goal = generate.setting_pair(rng)
+        hopeless = any(
+            judge.drive(*a) == judge.drive(*b) == 'high' and a[3] != b[3]
+            for a, b in ((judge.pin_bits(start, i), judge.pin_bits(goal, i)) for i in range(24)))
+        assert judge.exists(start, goal) == (not hopeless)
+
+
+def test_generators():
+    rng = random.Random(5)
+    for _ in range(30):
+        log = generate.trace_log(rng)
+        assert log.startswith(b'device\t') and log.endswith(b'\n') and 50 <= log.count(b'\n') <= 300
+    assert generate.trace_log(random.Random(6)) == generate.trace_log(random.Random(6))
+    for _ in range(300):
+        assert all(judge.well_formed(end) for end in generate.setting_pair(rng))
+        assert not all(judge.well_formed(end) for end in generate.malformed_pair(rng))
+    assert len(list(generate.one_pin_pairs())) == 24 * 256
+
+
+def main():
+    began = time.monotonic()
+    tests = [(name, test) for name, test in globals().items() if name.startswith('test_')]
+    for name, test in tests:
+        test()
+    print('selftest: %d tests passed in %.1f s' % (len(tests), time.monotonic() - began))
+
+
+if __name__ == '__main__':
+    sys.exit(main())
