@@ -15,14 +15,18 @@ COUNTS = {'trace': 1000, 'probe': 20000, 'plan': 3000}
 ALONE = 20
 
 # Lines the planner's program cannot read; the answer to each is refusal 7.
-UNREADABLE_PLANS = (b'', b'\t', b'plan', b'00', b'0' * 20, b'0' * 20 + b'\t', b'\t' + b'0' * 20, b'0' * 19 + b'\t' + b'0' * 20,
+UNREADABLE_PLANS = (b'', b'plan', b'00', b'0' * 20, b'0' * 19 + b'\t' + b'0' * 20,
                     b'0' * 20 + b'\t' + b'0' * 21, b'0' * 20 + b' ' + b'0' * 20, b'0' * 20 + b'\t' + b'0' * 19 + b'g',
                     b'0' * 20 + b'\t' + b'0' * 20 + b'\t', b'0' * 20 + b'\t' + b'0' * 20 + b'\t' + b'0' * 20,
                     b'0' * 20 + b'\t' + b'0' * 20 + b'\r', b'\xff' * 20 + b'\t' + b'0' * 20)
 
 
 def run(command, given):
-    return subprocess.run(command, input=given, stdout=subprocess.PIPE, check=False).stdout
+    """What the program answers; its remarks for a person are shown only if it fails."""
+    done = subprocess.run(command, input=given, stdout=subprocess.PIPE, stderr=subprocess.PIPE, check=False)
+    if done.returncode != 0:
+        print('exit status %d: %s' % (done.returncode, done.stderr[-500:].decode('latin-1')))
+    return done.stdout
 
 
 def kept(data):

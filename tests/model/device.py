@@ -1,6 +1,7 @@
 """The 24-pin I2C expander as the rules state it: one pin at a time, one short function for each rule."""
 
 from collections import namedtuple
+from functools import lru_cache
 
 PINS = 24
 SET_LIMIT = 1 << PINS
@@ -526,6 +527,7 @@ def settings_image(setting, rest):
     return rest._replace(registers=tuple(registers))
 
 
+@lru_cache(maxsize=16)
 def settings_drives(setting):
     """The drive of each pin under the ten bytes of a setting."""
-    return Device(settings_image(setting, Device.make(0, 0).image())).drives()
+    return tuple(Device(settings_image(setting, Device.make(0, 0).image())).drives())

@@ -1,6 +1,6 @@
 """Seeded generators: trace logs, probe lines and the planner's starts and goals."""
 
-from device import (CHOSEN, BYTE, CALL, FETCH, FILLING, GROUPS, LEVELS, OPENED, PINS, SENDING, SET_LIMIT, TEN, Device,
+from device import (BYTE, CALL, CHOSEN, FETCH, FILLING, GROUPS, LEVELS, OPENED, PINS, SENDING, SET_LIMIT, TEN, Device,
                     Image, power_on)
 from probe import WIDTHS, image_fields
 
@@ -29,6 +29,15 @@ OUTPUT_WRITES = {'output': 4, 'configuration': 4, 'output port kind': 3, 'pin ou
                  'input latch': 1, 'interrupt mask': 1}
 OUTPUT_READS = {'input port': 4, 'input status': 4, 'interrupt status': 1, 'output': 1}
 
+# Writes, reads, and the weights of a log's acts in the order of `trace_log`.
+TEMPERS = (
+    (MIXED_WRITES, MIXED_READS, (30, 5, 16, 20, 8, 6, 3, 3, 3, 1, 0.3)),
+    (MIXED_WRITES, MIXED_READS, (30, 5, 16, 20, 8, 6, 3, 3, 3, 1, 0.3)),
+    (MARK_WRITES, MARK_READS, (20, 20, 5, 20, 0.5, 0.3, 0.3, 0.3, 1, 1.5, 0.1)),
+    (MARK_WRITES, MARK_READS, (20, 20, 5, 20, 0.5, 0.3, 0.3, 0.3, 1, 1.5, 0.1)),
+    (OUTPUT_WRITES, OUTPUT_READS, (30, 0, 30, 15, 0.5, 0.3, 0.3, 0.3, 1, 0.3, 0.1)),
+)
+
 
 def weighted_group(rng, weights):
     return NAMED[rng.choices(list(weights), list(weights.values()))[0]]
@@ -40,14 +49,13 @@ class Log:
     def __init__(self, rng):
         self.rng = rng
         self.lines = []
+        # One pin alone shows its every mark on INT; two or three show that they keep apart.
         port = rng.randrange(3)
-        self.focus = [8 * port + rng.randrange(8) for _ in range(rng.randint(1, 2))]
-        if rng.random() < 0.3:
+        self.focus = [8 * port + rng.randrange(8) for _ in range(rng.choice((1, 1, 2)))]
+        if rng.random() < 0.2:
             self.focus.append(rng.randrange(PINS))
         self.choice, self.levels_now = 0, 0
-        self.writes, self.reads = rng.choice((
-            (MIXED_WRITES, MIXED_READS), (MIXED_WRITES, MIXED_READS), (MARK_WRITES, MARK_READS), (MARK_WRITES, MARK_READS),
-            (OUTPUT_WRITES, OUTPUT_READS)))
+        self.writes, self.reads, self.weights = rng.choice(TEMPERS)
 
     def event(self, line):
         """One bus event, now and then with something else after it."""
@@ -89,7 +97,7 @@ class Log:
         return min(group.first + step, group.last)
 
     def value(self, number):
-        """Random bits for the pins dwelt on, mostly the default for the others; no rule ties a plain register to a pin."""
+        """Random bits for the pins dwelt on, mostly the default for the others; any byte for a plain register."""
         group = Device.map[number]
         if group.name in PLAIN:
             return self.rng.randrange(256)
@@ -193,9 +201,10 @@ class Log:
         if rng.random() < 0.15:
             self.event('stop')
             return
-        self.event('byte\t%02x' % rng.choices((0x06, 0x00, rng.randrange(256)), (8, 1, 1))[0])
-        for _ in range(rng.choices((0, 1, 2), (6, 2, 1))[0]):
-            rng.choice((lambda: self.event('start'), lambda: self.event('byte\t%02x' % rng.choice((0x06, 0x00))),
+        self.event('byte\t%02x' % rng.choices((0x06, 0x00, rng.randrange(256)), (6, 2, 2))[0])
+        for _ in range(rng.choices((0, 1, 2), (5, 3, 1))[0]):
+            rng.choice((lambda: self.event('start'), lambda: self.event('byte\t06'),
+                        lambda: self.event('byte\t%02x' % rng.choice((0x06, 0x00))),
                         lambda: self.event('fetch\t1'), self.levels))()
         if rng.random() < 0.8:
             self.event('stop')
@@ -219,18 +228,18 @@ class Log:
         rng = self.rng
         self.lines.append(rng.choice((
             '', ' ', '\t', 'start ', ' start', 'START', 'Start', 'start\r', 'stop\r', 'reset\r', 'start\t', '\tstart',
-            'stop\t0', 'reset\t', 'byte', 'byte\t', 'byte\t4', 'byte\t044', 'byte\t4G', 'byte\tFF', 'byte\t0x', 'byte\t4 ',
-            'byte 44', 'byte\t\t44', 'byte\t44\t', 'byte\t44\t44', 'byte\t44\r', 'byte\t-1', 'byte\t+1', 'byte\t1_',
-            'fetch', 'fetch\t', 'fetch\t2', 'fetch\t00', 'fetch\t01', 'fetch\tf', 'fetch\t1\r', 'fetch\t1\t',
+            'stop\t0', 'reset\t', 'byte', 'byte\t', 'byte\t4', 'byte\t044', 'byte\t4G', 'byte\tFF', 'byte\t0x',
+            'byte\t4 ', 'byte 44', 'byte\t\t44', 'byte\t44\t', 'byte\t44\t44', 'byte\t44\r', 'byte\t-1', 'byte\t+1',
+            'byte\t1_', 'fetch', 'fetch\t', 'fetch\t2', 'fetch\t00', 'fetch\t01', 'fetch\tf', 'fetch\t1\r', 'fetch\t1\t',
             'pins', 'pins\t', 'pins\t00000', 'pins\t0000000', 'pins\t1000000', 'pins\tABCDEF', 'pins\t00000g',
             'pins\t000001\r', 'pins\t000001\t', 'pins\t0000 1', 'device', 'device\t0', 'device\t4\t000000',
             'device\tf\t000000', 'device\t00\t000000', 'device\t2\t1000000', 'device\t2\t00000', 'device\tA\t000000',
             'device\t2\t00000F', 'device\t2\t000000\t', 'device\t2\t000000\r', 'device\t\t000000', 'device\t2\t',
             'devices\t2\t000000', 'starts', 'stopp', 'rese', 'answer\tint\tlow\thigh', '\0', 'start\0', '\xff\xfe',
             'byte\t\xb2\xb2', 'refused\t7', 'x' * 31, 'x' * 32, 'x' * 33, 'start' + ' ' * 27, 'start' + ' ' * 28,
-            'pins\t' + '0' * 27, 'pins\t' + '0' * 28, 'pins\t' + '0' * rng.randint(29, 400), 'start' * rng.randint(7, 100),
-            'byte\t44' * 5, 'z' * 70 + '\tpins\t000001', 'q' * 33 + 'stop', 'q' * 32 + 'stop',
-            'y' * rng.choice((64, 1023, 1024, 4095, 4096, 5000)),
+            'pins\t' + '0' * 27, 'pins\t' + '0' * 28, 'pins\t' + '0' * rng.randint(29, 400),
+            'start' * rng.randint(7, 100), 'byte\t44' * 5, 'z' * 70 + '\tpins\t000001', 'q' * 33 + 'stop',
+            'q' * 32 + 'stop', 'y' * rng.choice((64, 1023, 1024, 4095, 4096, 5000)),
         )))
 
     def setting_up(self):
@@ -239,6 +248,10 @@ class Log:
             self.start(0)
             self.event('byte\t%02x' % (0x54 + pin // 8))
             self.event('byte\t%02x' % (0xFF & ~(1 << pin % 8)))
+            if self.rng.random() < 0.5:
+                self.start(0)
+                self.event('byte\t%02x' % (0x60 + pin // 4))
+                self.event('byte\t%02x' % self.value(0x60 + pin // 4))
 
 
 def trace_log(rng, alone=False):
@@ -256,15 +269,11 @@ def trace_log(rng, alone=False):
     log.device()
     if rng.random() < 0.8:
         log.setting_up()
-    length = rng.randint(50, 240)
+    length = rng.choice((50, 150, 200, 240))
     acts = (log.write, log.hide_and_show, log.read, log.levels, log.read_back, log.general_call, log.stray,
             log.other_address, log.garbage, log.hard_reset, log.device)
-    if log.writes is MARK_WRITES:
-        weights = (20, 20, 5, 20, 0.5, 0.5, 0.5, 0.5, 1, 0.7, 0.1)
-    else:
-        weights = (35, 5, 14, 20, 7, 5, 3, 2, 3, 1, 0.3)
     while len(log.lines) < length:
-        rng.choices(acts, weights)[0]()
+        rng.choices(acts, log.weights)[0]()
     end = '' if alone and rng.random() < 0.6 else '\n'
     return ('\n'.join(log.lines) + end).encode('latin-1')
 
@@ -376,7 +385,7 @@ def image_line(rng):
     bus = rng.choices(range(8), (1, 2, 2, 8, 5, 1, 2, 1))[0]
     number = rng.choice(KNOWN)
     if bus == FILLING and rng.random() < 0.7:
-        group = NAMED[rng.choice(('input latch', 'interrupt mask', 'interrupt edge', 'configuration', 'interrupt clear'))]
+        group = NAMED[rng.choice(list(MARK_WRITES))]
         number = rng.randint(group.first, group.last)
     if bus == SENDING and rng.random() < 0.6:
         group = NAMED[rng.choice(('input port', 'input status', 'interrupt status'))]

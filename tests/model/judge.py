@@ -4,7 +4,7 @@ import random
 import re
 from functools import lru_cache
 
-from device import BYTE, PINS, PORT_KIND, START, TEN, Device, Image, power_on, settings_image
+from device import BYTE, PINS, PORT_KIND, START, TEN, Device, Image, power_on, settings_drives, settings_image
 
 MOST_WRITES = 16
 RESTS = 3
@@ -118,8 +118,7 @@ def send(device, register, value):
 def judge_run(start, goal, writes, rest):
     """What goes wrong when the writes are sent to one device, None if nothing."""
     device = Device(settings_image(start, rest))
-    first = device.drives()
-    last = Device(settings_image(goal, rest)).drives()
+    first, last = settings_drives(start), settings_drives(goal)
     always_inputs = [i for i in range(PINS) if pin_bits(start, i)[1] and pin_bits(goal, i)[1]]
     status = {i: device.status_bit(i) for i in always_inputs}
     changes = [0] * PINS

@@ -5,8 +5,8 @@ import sys
 import time
 
 import generate
-from device import (ARMED, CALL, CHOSEN, DEAF, FETCH, FILLING, GROUPS, IDLE, LEVELS, OPENED, PINS, PORT_KIND, SENDING,
-                    SET_LIMIT, BYTE, Device, number_map)
+from device import (ARMED, BYTE, CALL, CHOSEN, DEAF, FETCH, FILLING, GROUPS, IDLE, LEVELS, OPENED, PINS, PORT_KIND,
+                    SENDING, SET_LIMIT, Device, number_map)
 from probe import run_lines
 from trace import run_log
 
@@ -23,12 +23,6 @@ MUTANTS = []
 def mutant(cls):
     MUTANTS.append(cls)
     return cls
-
-
-def table(name, *groups):
-    """A mutant whose table has these groups in place of the group of the first one's number."""
-    rest = [group for group in GROUPS if not any(group.first <= new.first <= group.last for new in groups)]
-    mutant(type(name, (Device,), {'map': number_map(rest + list(groups))}))
 
 
 def entry(name, first, **changes):

@@ -8,8 +8,8 @@ import generate
 import judge
 import probe
 import trace
-from device import (ARMED, BYTE, CALL, DEAF, FETCH, GROUPS, IDLE, LEVELS, OPENED, RESET, SENDING, SET_LIMIT, START, STOP,
-                    TEN, Device, Image)
+from device import (ARMED, BYTE, CALL, DEAF, FETCH, FILLING, GROUPS, IDLE, LEVELS, OPENED, RESET, SENDING, SET_LIMIT,
+                    START, STOP, TEN, Device)
 
 EXAMPLE_IN = b'device\t2\t000000\nstart\nbyte\t44\nbyte\t54\nbyte\tfe\npins\t000001\n'
 EXAMPLE_OUT = (b'answer\tint\tlow\thigh\n'
@@ -223,7 +223,8 @@ def test_limits():
     before = device.image()
     for kind, arg, number in ((6, 0, 1), (1 << 31, 1 << 40, 1), (BYTE, 256, 2), (FETCH, 2, 2), (LEVELS, SET_LIMIT, 2)):
         assert device.step(kind, arg) == ('refused', number) and device.image() == before
-    for kind, arg in ((BYTE, 255), (FETCH, 1), (LEVELS, SET_LIMIT - 1), (START, 1 << 63), (STOP, 1 << 63), (RESET, 1 << 63)):
+    for kind, arg in ((BYTE, 255), (FETCH, 1), (LEVELS, SET_LIMIT - 1), (START, 1 << 63), (STOP, 1 << 63),
+                      (RESET, 1 << 63)):
         assert not isinstance(device.step(kind, arg), tuple)
 
 
@@ -242,8 +243,8 @@ def test_broken_images():
                   entry(0x7F, 1)):
         for kind, arg in ((START, 0), (6, 0), (BYTE, 256)):
             assert Device(image).step(kind, arg) == ('refused', 3), image
-    for image in (sound, sound._replace(bus=7), sound._replace(choice=3), entry(0x5C, 7), sound._replace(edge=SET_LIMIT - 1),
-                  sound._replace(pointer=0x76)):
+    for image in (sound, sound._replace(bus=7), sound._replace(choice=3), entry(0x5C, 7),
+                  sound._replace(edge=SET_LIMIT - 1), sound._replace(pointer=0x76)):
         assert Device(image).step(START, 0) == '-'
 
 
@@ -266,6 +267,40 @@ def test_images_come_back():
         read = probe.read_line(generate.image_line(rng)[:-1])
         if read and not Device(read[0]).broken:
             assert Device(read[0]).image() == read[0]
+
+
+def may_end(before, kind, arg, i):
+    """The only causes that may end a status bit, by the device before the event."""
+    pin = before.pins[i]
+    if kind == RESET or (kind == STOP and before.bus == ARMED):
+        return True
+    if kind == LEVELS:
+        return before.field(i) == 0 and not before.latched(i) and bool(arg >> i & 1) == pin.reference
+    if kind == FETCH and before.bus == SENDING:
+        return before.pointer == i // 8
+    if kind == BYTE and before.bus == FILLING:
+        bit = arg >> i % 8 & 1
+        return (before.pointer == 0x60 + i // 4
+                or (before.pointer - i // 8, bit) in ((0x68, 1), (0x54, 1), (0x48, 0), (0x0C, 0)))
+    return False
+
+
+def test_causes_that_end_a_status_bit():
+    rng = random.Random(7)
+    ended = 0
+    for _ in range(6000):
+        read = probe.read_line(generate.image_line(rng)[:-1])
+        if not read:
+            continue
+        image, kind, arg = read
+        before, after = Device(image), Device(image)
+        if isinstance(after.step(kind, arg), tuple):
+            continue
+        for i in range(24):
+            if before.status_bit(i) and not after.status_bit(i):
+                assert may_end(before, kind, arg, i), (image, kind, arg, i)
+                ended += 1
+    assert ended > 100
 
 
 # The planner.
@@ -295,9 +330,9 @@ def test_judge_finds_faults():
     start, goal = setting(r0c=0xFC), setting(r04=0xFE, r0c=0xFC)
     assert judge.judge(start, goal, 'plan\t04fe') is None
     for answer in ('', 'plan', 'plan ', 'plan\t04fd', 'plan\t04fe\t04fe', 'plan\t04fe\t04ff\t04fe', 'plan\t04fc\t04fe',
-                   'plan\t08ff\t04fe', 'plan\t0cfd\t04fe\t0cfc', 'plan\t0cf8\t04fe\t0cfc', 'plan\t5c08\t04fe', 'plan\t4c01\t04fe',
-                   'plan\t03ff\t04fe', 'plan\t4fe', 'plan\t04FE', 'refused\t4', 'refused\t5', 'refused\t7',
-                   'plan' + '\t7101\t7100' * 8 + '\t04fe'):
+                   'plan\t08ff\t04fe', 'plan\t0cfd\t04fe\t0cfc', 'plan\t0cf8\t04fe\t0cfc', 'plan\t5c08\t04fe',
+                   'plan\t4c01\t04fe', 'plan\t03ff\t04fe', 'plan\t4fe', 'plan\t04FE',
+                   'refused\t4', 'refused\t5', 'refused\t7', 'plan' + '\t7101\t7100' * 8 + '\t04fe'):
         assert judge.judge(start, goal, answer) is not None, answer
     assert judge.judge(start, goal, 'plan' + '\t7101\t7100' * 7 + '\t04fe') is None
     assert judge.judge(start, start, 'plan') is None

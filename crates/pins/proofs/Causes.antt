@@ -1,36 +1,18 @@
 -- A status bit that shows 1 goes to 0 only by a listed cause, for one pin in whatever state. Assumes nothing.
 use mathlib.Core.Path.{_≡_, refl}
 use mathlib.Core.Bool.{Bool, true, false, not, _&&_, _||_}
-use Prim.Native.Nat.{ℕ}
-use native.Mathlib.Omega.{arith}
 use Rattle.bits.specs.Bits.{differs}
-use Rattle.bits.proofs.Decide.{taut}
+use Rattle.bits.proofs.Decide.{clash, and-left, and-right, not-true, taut}
 use Rattle.pins.specs.Pin.{source, pin, pending, status, settle, matches, levelTo, clearWritten, maskWritten, latchWritten, configurationWritten}
 use Rattle.pins.specs.OnePin.{OnePin, Happening, registersAfter, pinAfter, after, statusOf}
 use Rattle.pins.specs.OnePin.Happening.{LevelTo, InputFetched, ClearWritten, MaskWritten, EdgeWritten, LatchWritten, ConfigurationWritten, OutputWritten, PolarityWritten, PortKindWritten, PinKindWritten, StoredWritten, Reset, Elsewhere}
 use Rattle.pins.specs.Cause.{Cause}
 use Rattle.pins.specs.Cause.Cause.{fetched, cleared, masked, edged, unlatched, turned, wasReset, returned}
 
--- a bit is not 1 and 0
-clash : {A : Type 0} (b : Bool) → b ≡ true → b ≡ false → A
-clash b p q = let z : _≡_ {A = ℕ} 0 1 = cc in absurd (omega arith)
-
 -- the test `not before || after || cause` came out true
 then : (before after cause : Bool) → (not before || after || cause) ≡ true → before ≡ true → after ≡ false → cause ≡ true
 then true after cause e p q = rw q at e
 then false after cause e p q = clash false p refl
-
-left : (a b : Bool) → (a && b) ≡ true → a ≡ true
-left true b e = refl
-left false b e = e
-
-right : (a b : Bool) → (a && b) ≡ true → b ≡ true
-right true b e = e
-right false b e = clash false e refl
-
-no : (a : Bool) → not a ≡ true → a ≡ false
-no true e = clash false e refl
-no false e = refl
 
 alike : (a b : Bool) → not (differs a b) ≡ true → a ≡ b
 alike true true e = refl
@@ -70,13 +52,13 @@ only-by-cause (LevelTo new) s p q =
     let v = s .registers .source in
     let x = s .pin in
     let t = then (statusOf s) (statusOf (after (LevelTo new) s)) _ (level-ends (v .configuration) (v .mask) (v .latch) (v .rising) (v .falling) new (x .level) (x .reference) (x .held) (x .edge)) p q in
-    let a = left (not (v .rising) && not (v .falling)) (not (v .latch) && not (differs new (x .reference))) t in
-    let b = right (not (v .rising) && not (v .falling)) (not (v .latch) && not (differs new (x .reference))) t in
+    let a = and-left (not (v .rising) && not (v .falling)) (not (v .latch) && not (differs new (x .reference))) t in
+    let b = and-right (not (v .rising) && not (v .falling)) (not (v .latch) && not (differs new (x .reference))) t in
     returned
-    (no (v .rising) (left (not (v .rising)) (not (v .falling)) a))
-    (no (v .falling) (right (not (v .rising)) (not (v .falling)) a))
-    (no (v .latch) (left (not (v .latch)) (not (differs new (x .reference))) b))
-    (alike new (x .reference) (right (not (v .latch)) (not (differs new (x .reference))) b))
+    (not-true (v .rising) (and-left (not (v .rising)) (not (v .falling)) a))
+    (not-true (v .falling) (and-right (not (v .rising)) (not (v .falling)) a))
+    (not-true (v .latch) (and-left (not (v .latch)) (not (differs new (x .reference))) b))
+    (alike new (x .reference) (and-right (not (v .latch)) (not (differs new (x .reference))) b))
 only-by-cause InputFetched s p q = fetched
 only-by-cause (ClearWritten true) s p q = cleared
 only-by-cause (ClearWritten false) s p q = clash (statusOf s) p q

@@ -1,0 +1,66 @@
+use borrow.Author.Needs.{needs}
+use mathlib.Core.Path.{ap, _∙_}
+use borrow.Author.Tests.{eq-eqb, ne-eqb}
+use Rattle.bus.specs.Device.{out, byteIn}
+use Rattle.bus.specs.Held.{stateOf}
+use Rattle.bus.specs.declared.Rest.{Rest}
+use Rattle.bus.specs.declared.Answer.the-variants.{Ack, Nak}
+use Rattle.bus.proofs.byte_opened.Statement.{statement}
+use Rattle.bus.proofs.byte_opened.Tie as tie
+
+add-address : tie.Need-add-address
+add-address c = search needs
+
+mul-address : tie.Need-mul-address
+mul-address c = search needs
+
+moved-requires : tie.Need-moved-requires
+moved-requires c κs = search needs
+
+returns : tie.Need-returns
+unfolding byteIn
+returns c = λ file.
+    ap (λ (y : Rest). out Ack (stateOf file y)) (c .moved .ensures) ∙ simp (eq-eqb _ _ (c .before .if1 .taken))
+
+add-if2 : tie.Need-add-if2
+add-if2 c = search needs
+
+moved-requires-2 : tie.Need-moved-requires-2
+moved-requires-2 c κs = search needs
+
+returns-2 : tie.Need-returns-2
+unfolding byteIn
+returns-2 c = λ file.
+    ap (λ (y : Rest). out Ack (stateOf file y)) (c .moved2 .ensures) ∙ simp (ne-eqb _ _ (c .before .before .if1 .left), eq-eqb _ _ (c .before .if2 .taken))
+
+moved-requires-3 : tie.Need-moved-requires-3
+moved-requires-3 c κs = search needs
+
+returns-3 : tie.Need-returns-3
+unfolding byteIn
+returns-3 c = λ file.
+    ap (λ (y : Rest). out Ack (stateOf file y)) (c .moved3 .ensures) ∙ simp (ne-eqb _ _ (c .before .before .before .if1 .left), ne-eqb _ _ (c .before .before .if2 .left), eq-eqb _ _ (c .before .if3 .taken))
+
+moved-requires-4 : tie.Need-moved-requires-4
+moved-requires-4 c κs = search needs
+
+returns-4 : tie.Need-returns-4
+unfolding byteIn
+returns-4 c = λ file.
+    ap (λ (y : Rest). out Nak (stateOf file y)) (c .moved4 .ensures) ∙ simp (ne-eqb _ _ (c .before .before .before .if1 .left), ne-eqb _ _ (c .before .before .if2 .left), ne-eqb _ _ (c .before .if3 .left))
+
+pub byte-opened-spec : {M : Type 1} → statement M
+byte-opened-spec =
+    tie.close
+    (tie.spec
+    add-address
+    mul-address
+    moved-requires
+    returns
+    add-if2
+    moved-requires-2
+    returns-2
+    moved-requires-3
+    returns-3
+    moved-requires-4
+    returns-4)

@@ -1,0 +1,129 @@
+-- Images that fit, and what an event given by its kind and argument is. Assumes nothing.
+use mathlib.Core.Path.{_≡_, refl}
+use mathlib.Core.Bool.{Bool, true, false, not, _&&_, _||_}
+use Prim.Native.Nat.{ℕ, zero, suc, _^_, _<_}
+use native.Mathlib.Omega.{arith}
+use borrow.Author.Tests.{lt-ltb, le-ltb, lt-leb, ltb-true}
+use lib.Bits.{bitOr}
+use lib.Dec.{eqb, ltb}
+use Rattle.bits.proofs.Decide.{clash, and-left, and-right, not-true, taut}
+use Rattle.bits.proofs.Laws.{or-fits}
+use Rattle.pins.specs.AllPins.{Within}
+use Rattle.pins.specs.declared.Sets.{Sets}
+use Rattle.map.specs.Map.{part24, kindAt, code, reserved, fileFits}
+use Rattle.map.specs.Map.Kind.{Reserved}
+use Rattle.bus.specs.Device.{State, out, step, setsFit, imageFits, refusal, stepped}
+use Rattle.bus.specs.Device.Event.{Start, Stop, HardwareReset, ByteSent, ByteFetched, Levels}
+use Rattle.bus.specs.Held.{Sound}
+use Rattle.bus.specs.declared.Answer.the-variants.{Refused}
+
+-- the code's one test of the four sets
+pub sets-test : (x : Sets) → ltb (bitOr (bitOr (bitOr (x .level) (x .reference)) (x .held)) (x .edge)) (2 ^ 24) ≡ setsFit part24 x
+unfolding setsFit
+sets-test x =
+    simp (or-fits 24) (regroup (ltb (x .level) (2 ^ 24)) (ltb (x .reference) (2 ^ 24)) (ltb (x .held) (2 ^ 24)) (ltb (x .edge) (2 ^ 24)))
+  where
+    regroup : (a b c d : Bool) → (((a && b) && c) && d) ≡ (a && (b && (c && d)))
+    regroup = taut 4 _ _ tt
+
+within-of : (x : Sets) → setsFit part24 x ≡ true → Within 24 x
+unfolding setsFit
+within-of x e =
+    let a = ltb (x .level) (2 ^ 24) in
+    let b = ltb (x .reference) (2 ^ 24) in
+    let c = ltb (x .held) (2 ^ 24) in
+    let d = ltb (x .edge) (2 ^ 24) in
+    let t = and-right a (b && (c && d)) e in
+    let u = and-right b (c && d) t in
+    record {
+      level-small = ltb-true (x .level) (2 ^ 24) (and-left a (b && (c && d)) e);
+      reference-small = ltb-true (x .reference) (2 ^ 24) (and-left b (c && d) t);
+      held-small = ltb-true (x .held) (2 ^ 24) (and-left c d u);
+      edge-small = ltb-true (x .edge) (2 ^ 24) (and-right c d u);
+    }
+
+known-small : (n : ℕ) → reserved part24 n ≡ false → n < 128
+unfolding reserved
+known-small n e = go (eqb (code (kindAt part24 n)) (code Reserved)) (ltb n 128) refl e
+  where
+    go : (r t : Bool) → ltb n 128 ≡ t → (not t || r) ≡ false → n < 128
+    go r true h q = ltb-true n 128 h
+    go r false h q = clash true refl q
+
+-- what is known of a state whose image is not refused
+pub sound-of : (s : State) → imageFits part24 s ≡ true → Sound part24 s
+unfolding imageFits
+sound-of s e =
+    let p = not (reserved part24 (s .pointer)) in
+    let b = ltb (s .bus) 8 in
+    let c = ltb (s .choice) 4 in
+    let x = setsFit part24 (s .regs .sets) in
+    let f = fileFits part24 (s .regs .file) in
+    let t = and-right p (b && (c && (x && f))) e in
+    let u = and-right b (c && (x && f)) t in
+    let v = and-right c (x && f) u in
+    let known = not-true (reserved part24 (s .pointer)) (and-left p (b && (c && (x && f))) e) in
+    record {
+      pointer-small = known-small (s .pointer) known;
+      pointer-known = known;
+      bus-small = ltb-true (s .bus) 8 (and-left b (c && (x && f)) t);
+      choice-small = ltb-true (s .choice) 4 (and-left c (x && f) u);
+      within = within-of (s .regs .sets) (and-left x f v);
+      file-fits = and-right x f v;
+    }
+
+-- ---- the refusals in their order, and what is not refused
+pub broken : (s : State) (kind arg : ℕ) → imageFits part24 s ≡ false → out (Refused 3) s ≡ stepped part24 s kind arg
+unfolding stepped refusal
+broken s kind arg e = simp e
+
+module _ (s : State) (arg : ℕ) (e : imageFits part24 s ≡ true) where
+  pub unknown-kind : (kind : ℕ) → 5 < kind → out (Refused 1) s ≡ stepped part24 s kind arg
+  unfolding stepped refusal
+  unknown-kind kind h = simp (e, lt-leb kind 5 h)
+
+  pub byte-refused : 255 < arg → out (Refused 2) s ≡ stepped part24 s 2 arg
+  unfolding stepped refusal
+  byte-refused h = simp (e, le-ltb arg 256 h)
+
+  pub fetch-refused : 1 < arg → out (Refused 2) s ≡ stepped part24 s 3 arg
+  unfolding stepped refusal
+  fetch-refused h = simp (e, le-ltb arg 2 h)
+
+  pub levels-refused : 0xff_ffff < arg → out (Refused 2) s ≡ stepped part24 s 4 arg
+  unfolding stepped refusal
+  levels-refused h = simp (e, le-ltb arg (2 ^ 24) h)
+
+  pub start-taken : step part24 s Start ≡ stepped part24 s 0 arg
+  unfolding stepped refusal
+  start-taken = simp e
+
+  pub stop-taken : step part24 s Stop ≡ stepped part24 s 1 arg
+  unfolding stepped refusal
+  stop-taken = simp e
+
+  pub byte-taken : arg < 256 → step part24 s (ByteSent arg) ≡ stepped part24 s 2 arg
+  unfolding stepped refusal
+  byte-taken h = simp (e, lt-ltb arg 256 h)
+
+  pub fetch-taken : arg < 2 → step part24 s (ByteFetched (eqb arg 1)) ≡ stepped part24 s 3 arg
+  unfolding stepped refusal
+  fetch-taken h = simp (e, lt-ltb arg 2 h)
+
+  pub levels-taken : arg < 2 ^ 24 → step part24 s (Levels arg) ≡ stepped part24 s 4 arg
+  unfolding stepped refusal
+  levels-taken h = simp (e, lt-ltb arg (2 ^ 24) h)
+
+  pub reset-taken : step part24 s HardwareReset ≡ stepped part24 s 5 arg
+  unfolding stepped refusal
+  reset-taken = simp e
+
+-- a kind below 6 that is none of the first five
+pub five : (k : ℕ) → k < 6 → (k ≡ 0 → ⊥) → (k ≡ 1 → ⊥) → (k ≡ 2 → ⊥) → (k ≡ 3 → ⊥) → (k ≡ 4 → ⊥) → k ≡ 5
+five zero h z0 z1 z2 z3 z4 = absurd (z0 refl)
+five (suc zero) h z0 z1 z2 z3 z4 = absurd (z1 refl)
+five (suc (suc zero)) h z0 z1 z2 z3 z4 = absurd (z2 refl)
+five (suc (suc (suc zero))) h z0 z1 z2 z3 z4 = absurd (z3 refl)
+five (suc (suc (suc (suc zero)))) h z0 z1 z2 z3 z4 = absurd (z4 refl)
+five (suc (suc (suc (suc (suc zero))))) h z0 z1 z2 z3 z4 = refl
+five (suc (suc (suc (suc (suc (suc k)))))) h z0 z1 z2 z3 z4 = absurd (omega arith)

@@ -1,0 +1,42 @@
+-- Making a device: when it is refused, and what is made. Assumes nothing.
+use mathlib.Core.Path.{_≡_, refl, sym}
+use mathlib.Core.Bool.{false}
+use mathlib.Core.List.{List}
+use Prim.Native.Nat.{ℕ, _^_, _<_}
+use native.Mathlib.Omega.{arith}
+use borrow.Author.Tests.{lt-ltb, le-ltb, lt-leb, le-leb}
+use Rattle.map.specs.Map.{part24, reserved, kindAt, defaults}
+use Rattle.registers.proofs.Writing.{same}
+use Rattle.bus.specs.Device.{setsFit, imageFits}
+use Rattle.bus.proofs.Stepping.{same-state}
+use Rattle.device.specs.PowerOn.{stateIn, powerOn, makingRefused, MadeOf}
+use Rattle.device.specs.declared.Device.{Device}
+
+abbrev at-power-on : List ℕ → (choice levels : ℕ) → Device
+at-power-on file choice levels = record { file = file; sets = record { level = levels; reference = levels; held = 0; edge = 0 }; pointer = 0; bus = 0; choice = choice }
+
+not-made : (choice levels : ℕ) (d : Device) → makingRefused part24 choice levels ≡ 2 → imageFits part24 (stateIn d) ≡ false → MadeOf part24 choice levels 2 d
+not-made choice levels d e i = record { number = sym e; made = λ z. absurd (omega (arith, e, z)); none = λ z. i }
+
+module _ (file : List ℕ) (choice levels : ℕ) where
+  pub choice-over : 3 < choice → MadeOf part24 choice levels 2 (at-power-on file choice levels)
+  unfolding imageFits reserved kindAt
+  choice-over h = not-made choice levels (at-power-on file choice levels) (simp (lt-leb choice 3 h)) (simp (le-ltb choice 4 h))
+
+  module _ (fits : choice < 4) where
+    pub levels-over : 0xff_ffff < levels → MadeOf part24 choice levels 2 (at-power-on file choice levels)
+    unfolding imageFits setsFit reserved kindAt
+    levels-over h =
+        not-made choice levels (at-power-on file choice levels) (simp (le-leb choice 3 (omega arith), le-ltb levels (2 ^ 24) h))
+        (simp (lt-ltb choice 4 fits, le-ltb levels (2 ^ 24) h))
+
+    pub power-made : file ≡ defaults part24 → levels < 2 ^ 24 → MadeOf part24 choice levels 0 (at-power-on file choice levels)
+    unfolding powerOn
+    power-made e h = record {
+      number = simp (le-leb choice 3 (omega arith), lt-ltb levels (2 ^ 24) h);
+      made = λ z. same-state (same e refl) refl refl refl;
+      none = λ z. absurd (omega (arith, z, given));
+    }
+      where
+        given : makingRefused part24 choice levels ≡ 0
+        given = simp (le-leb choice 3 (omega arith), lt-ltb levels (2 ^ 24) h)
