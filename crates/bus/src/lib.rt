@@ -41,6 +41,34 @@ pub fn moved(mut r: Rest, pointer: u8, bus: u8) -> Rest
     r
 }
 
+// Acknowledged, not acknowledged, and a byte read: the answer with the state after.
+fn acked(rest: Rest) -> Out
+    ensures { λ o. ⌜ o ≡ record { answer = Answer.Ack; rest = rest } ⌝ }
+{
+    Out {
+        answer: Answer::Ack,
+        rest,
+    }
+}
+
+fn not_acked(rest: Rest) -> Out
+    ensures { λ o. ⌜ o ≡ record { answer = Answer.Nak; rest = rest } ⌝ }
+{
+    Out {
+        answer: Answer::Nak,
+        rest,
+    }
+}
+
+fn read(byte: u8, rest: Rest) -> Out
+    ensures { λ o. ⌜ o ≡ record { answer = Answer.Byte byte; rest = rest } ⌝ }
+{
+    Out {
+        answer: Answer::Byte(byte),
+        rest,
+    }
+}
+
 // A byte in Opened: the address with its direction, or the general call.
 fn byte_opened(r: Rest, b: u8) -> Out
     requires { ⌜ r .choice < 4 ⌝ }
@@ -49,62 +77,44 @@ fn byte_opened(r: Rest, b: u8) -> Out
     let pointer = r.pointer;
     let address = 2 * (0x20 + r.choice);
     if b == address {
-        return Out {
-            answer: Answer::Ack,
-            rest: moved(r, pointer, 2),
-        };
+        return acked(moved(r, pointer, 2));
     }
     if b == address + 1 {
-        return Out {
-            answer: Answer::Ack,
-            rest: moved(r, pointer, 4),
-        };
+        return acked(moved(r, pointer, 4));
     }
     if b == 0 {
-        return Out {
-            answer: Answer::Ack,
-            rest: moved(r, pointer, 5),
-        };
+        return acked(moved(r, pointer, 5));
     }
-    Out {
-        answer: Answer::Nak,
-        rest: moved(r, pointer, 7),
-    }
+    not_acked(moved(r, pointer, 7))
 }
 
 // A byte in Chosen: the command.
 fn byte_chosen(r: Rest, b: u8) -> Out
     ensures { λ o. ⌜ ((file : List ℕ) → out (o .answer) (stateOf file (o .rest)) ≡ byteIn part24 Chosen (stateOf file r) b) ⌝ }
 {
+    let kept = r.pointer;
     if map::is_reserved(b) {
-        let pointer = r.pointer;
-        return Out {
-            answer: Answer::Nak,
-            rest: moved(r, pointer, 7),
-        };
+        return not_acked(moved(r, kept, 7));
     }
-    Out {
-        answer: Answer::Ack,
-        rest: moved(r, b, 3),
-    }
+    acked(moved(r, b, 3))
 }
 
 // A byte in Filling: the register at the pointer is written, and the pointer steps.
-fn byte_filling(file: &mut [u8; 128], r: Rest, b: u8) -> Rest
+fn byte_filling(file: &mut [u8; 128], r: Rest, b: u8) -> Out
     requires { ⌜ (r .pointer < 128) × Within 24 (r .sets) ⌝ }
-    ensures { λ y. ⌜ out Answer.Ack (stateOf (now (file .exit)) y) ≡ byteIn part24 Filling (stateOf (now (file .entry)) r) b ⌝ }
+    ensures { λ o. ⌜ out (o .answer) (stateOf (now (file .exit)) (o .rest)) ≡ byteIn part24 Filling (stateOf (now (file .entry)) r) b ⌝ }
 {
     let n = r.pointer;
     let x = r.sets;
     let choice = r.choice;
     let sets = registers::write_register(file, x, n, b);
     let pointer = map::next_of(n);
-    Rest {
+    acked(Rest {
         sets,
         pointer,
         bus: 3,
         choice,
-    }
+    })
 }
 
 // A byte in Call: software reset, or nothing.
@@ -113,15 +123,9 @@ fn byte_call(r: Rest, b: u8) -> Out
 {
     let pointer = r.pointer;
     if b == 6 {
-        return Out {
-            answer: Answer::Ack,
-            rest: moved(r, pointer, 6),
-        };
+        return acked(moved(r, pointer, 6));
     }
-    Out {
-        answer: Answer::Nak,
-        rest: moved(r, pointer, 7),
-    }
+    not_acked(moved(r, pointer, 7))
 }
 
 // A byte from the master.
@@ -138,25 +142,16 @@ pub fn byte(file: &mut [u8; 128], r: Rest, b: u8) -> Out
         return byte_chosen(r, b);
     }
     if bus == 3 {
-        return Out {
-            answer: Answer::Ack,
-            rest: byte_filling(file, r, b),
-        };
+        return byte_filling(file, r, b);
     }
     if bus == 5 {
         return byte_call(r, b);
     }
     if bus == 0 {
-        return Out {
-            answer: Answer::Nak,
-            rest: r,
-        };
+        return not_acked(r);
     }
     // Sending, Armed and Deaf
-    Out {
-        answer: Answer::Nak,
-        rest: moved(r, pointer, 7),
-    }
+    not_acked(moved(r, pointer, 7))
 }
 
 // A byte fetched by the master.
@@ -166,10 +161,7 @@ pub fn fetch(file: &[u8; 128], r: Rest, acknowledged: bool) -> Out
 {
     let bus = r.bus;
     if bus != 4 {
-        return Out {
-            answer: Answer::Byte(0xff),
-            rest: r,
-        };
+        return read(0xff, r);
     }
     let n = r.pointer;
     let x = r.sets;
@@ -177,26 +169,26 @@ pub fn fetch(file: &[u8; 128], r: Rest, acknowledged: bool) -> Out
     let shown = views::show(file, x, n);
     let sets = views::fetch(x, n);
     if acknowledged {
-        let pointer = map::next_of(n);
-        return Out {
-            answer: Answer::Byte(shown),
-            rest: Rest {
+        let next = map::next_of(n);
+        return read(
+            shown,
+            Rest {
                 sets,
-                pointer,
+                pointer: next,
                 bus: 4,
                 choice,
             },
-        };
+        );
     }
-    Out {
-        answer: Answer::Byte(shown),
-        rest: Rest {
+    read(
+        shown,
+        Rest {
             sets,
             pointer: n,
             bus: 7,
             choice,
         },
-    }
+    )
 }
 
 // Any reset.

@@ -12,7 +12,8 @@ use Rattle.pins.specs.AllPins.{Within}
 use Rattle.pins.specs.declared.Sets.{Sets}
 use Rattle.map.specs.Map.{part24, kindAt, code, reserved, fileFits}
 use Rattle.map.specs.Map.Kind.{Reserved}
-use Rattle.bus.specs.Device.{State, out, step, setsFit, imageFits, refusal, stepped}
+use Rattle.bus.specs.Device.{State, out, step}
+use Rattle.device.specs.Refusals.{setsFit, imageFits, refusal, stepped}
 use Rattle.bus.specs.Device.Event.{Start, Stop, HardwareReset, ByteSent, ByteFetched, Levels}
 use Rattle.bus.specs.Held.{Sound}
 use Rattle.bus.specs.declared.Answer.the-variants.{Refused}
@@ -42,7 +43,7 @@ within-of x e =
       edge-small = ltb-true (x .edge) (2 ^ 24) (and-right c d u);
     }
 
-known-small : (n : ℕ) → reserved part24 n ≡ false → n < 128
+pub known-small : (n : ℕ) → reserved part24 n ≡ false → n < 128
 unfolding reserved
 known-small n e = go (eqb (code (kindAt part24 n)) (code Reserved)) (ltb n 128) refl e
   where

@@ -7,7 +7,7 @@ use native.Mathlib.Omega.{arith}
 use borrow.Author.Tests.{lt-ltb, le-ltb, lt-leb, le-leb}
 use Rattle.map.specs.Map.{part24, reserved, kindAt, defaults}
 use Rattle.registers.proofs.Writing.{same}
-use Rattle.bus.specs.Device.{setsFit, imageFits}
+use Rattle.device.specs.Refusals.{setsFit, imageFits}
 use Rattle.bus.proofs.Stepping.{same-state}
 use Rattle.device.specs.PowerOn.{stateIn, powerOn, makingRefused, MadeOf}
 use Rattle.device.specs.declared.Device.{Device}

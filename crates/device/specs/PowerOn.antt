@@ -5,7 +5,8 @@ use Prim.Native.Nat.{ℕ, _^_}
 use lib.Dec.{leb, ltb}
 use Rattle.map.specs.Map.{Part, defaults}
 use Rattle.registers.specs.Registers.{core}
-use Rattle.bus.specs.Device.{State, state, number, imageFits}
+use Rattle.bus.specs.Device.{State, state, number}
+use Rattle.device.specs.Refusals.{imageFits}
 use Rattle.bus.specs.Device.Bus.{Idle}
 use Rattle.device.specs.declared.Device.{Device}
 

@@ -2,6 +2,7 @@ use borrow.Author.Needs.{needs}
 use mathlib.Core.Path.{refl, ap, _∙_}
 use Rattle.bus.specs.Device.{out, byteIn}
 use Rattle.bus.specs.Held.{stateOf}
+use Rattle.bus.specs.declared.Out.{Out}
 use Rattle.bus.specs.declared.Rest.{Rest}
 use Rattle.bus.specs.declared.Answer.the-variants.{Nak}
 use Rattle.bus.proofs.Stepping.{at-bus, no-byte}
@@ -14,8 +15,9 @@ byte-opened-requires c κs = search needs
 returns : tie.Need-returns
 returns c =
     let start = c .before .before in
-    let s = stateOf (start .args .file .now) (start .args .r) in
-    at-bus s (start .args .b) 1 (c .before .if1 .taken) (c .byte-opened .ensures (start .args .file .now))
+    let file = start .args .file .now in
+    let s = stateOf file (start .args .r) in
+    at-bus s (start .args .b) 1 (c .before .if1 .taken) (c .byte-opened .ensures file)
 
 byte-chosen-requires : tie.Need-byte-chosen-requires
 byte-chosen-requires c κs = search needs
@@ -23,8 +25,9 @@ byte-chosen-requires c κs = search needs
 returns-2 : tie.Need-returns-2
 returns-2 c =
     let start = c .before .before .before in
-    let s = stateOf (start .args .file .now) (start .args .r) in
-    at-bus s (start .args .b) 2 (c .before .if2 .taken) (c .byte-chosen .ensures (start .args .file .now))
+    let file = start .args .file .now in
+    let s = stateOf file (start .args .r) in
+    at-bus s (start .args .b) 2 (c .before .if2 .taken) (c .byte-chosen .ensures file)
 
 byte-filling-requires : tie.Need-byte-filling-requires
 byte-filling-requires c κs = search needs
@@ -32,7 +35,8 @@ byte-filling-requires c κs = search needs
 returns-3 : tie.Need-returns-3
 returns-3 c =
     let start = c .before .before .before .before .before in
-    let s = stateOf (start .args .file .now) (start .args .r) in
+    let file = start .args .file .now in
+    let s = stateOf file (start .args .r) in
     at-bus s (start .args .b) 3 (c .before .before .if3 .taken) (c .byte-filling .ensures)
 
 byte-call-requires : tie.Need-byte-call-requires
@@ -41,26 +45,38 @@ byte-call-requires c κs = search needs
 returns-4 : tie.Need-returns-4
 returns-4 c =
     let start = c .before .before .before .before .before in
-    let s = stateOf (start .args .file .now) (start .args .r) in
-    at-bus s (start .args .b) 5 (c .before .if4 .taken) (c .byte-call .ensures (start .args .file .now))
+    let file = start .args .file .now in
+    let s = stateOf file (start .args .r) in
+    at-bus s (start .args .b) 5 (c .before .if4 .taken) (c .byte-call .ensures file)
+
+not-acked-requires : tie.Need-not-acked-requires
+not-acked-requires c κs = search needs
 
 returns-5 : tie.Need-returns-5
 unfolding byteIn
 returns-5 c =
-    let start = c .before .before .before .before .before in
-    let s = stateOf (start .args .file .now) (start .args .r) in
-    at-bus s (start .args .b) 0 (c .if5 .taken) refl
+    let start = c .before .before .before .before .before .before in
+    let file = start .args .file .now in
+    let s = stateOf file (start .args .r) in
+    ap (λ (o : Out). out (o .answer) (stateOf file (o .rest))) (c .not-acked .ensures)
+    ∙ at-bus s (start .args .b) 0 (c .before .if5 .taken) refl
 
 moved-requires : tie.Need-moved-requires
 moved-requires c κs = search needs
 
+not-acked-requires-2 : tie.Need-not-acked-requires-2
+not-acked-requires-2 c κs = search needs
+
 returns-6 : tie.Need-returns-6
 returns-6 c =
-    let start = c .before .before .before .before .before .before in
-    let s = stateOf (start .args .file .now) (start .args .r) in
-    ap (λ (y : Rest). out Nak (stateOf (start .args .file .now) y)) (c .moved .ensures)
-    ∙ no-byte s (start .args .b) (start .pre .bus-small) (c .before .if5 .left) (c .before .before .before .before .before .if1 .left)
-    (c .before .before .before .before .if2 .left) (c .before .before .before .if3 .left) (c .before .before .if4 .left)
+    let start = c .before .before .before .before .before .before .before in
+    let file = start .args .file .now in
+    let s = stateOf file (start .args .r) in
+    let at = c .before .before in
+    ap (λ (o : Out). out (o .answer) (stateOf file (o .rest))) (c .not-acked2 .ensures)
+    ∙ ap (λ (y : Rest). out Nak (stateOf file y)) (c .before .moved .ensures)
+    ∙ no-byte s (start .args .b) (start .pre .bus-small) (at .if5 .left) (at .before .before .before .before .if1 .left)
+    (at .before .before .before .if2 .left) (at .before .before .if3 .left) (at .before .if4 .left)
 
 pub byte-spec : {M : Type 1} → statement M
 byte-spec =
@@ -74,6 +90,8 @@ byte-spec =
     returns-3
     byte-call-requires
     returns-4
+    not-acked-requires
     returns-5
     moved-requires
+    not-acked-requires-2
     returns-6)

@@ -3,6 +3,7 @@ use mathlib.Core.Path.{ap, _∙_}
 use borrow.Author.Tests.{eq-eqb, ne-eqb}
 use Rattle.bus.specs.Device.{out, byteIn}
 use Rattle.bus.specs.Held.{stateOf}
+use Rattle.bus.specs.declared.Out.{Out}
 use Rattle.bus.specs.declared.Rest.{Rest}
 use Rattle.bus.specs.declared.Answer.the-variants.{Ack, Nak}
 use Rattle.bus.proofs.byte_opened.Statement.{statement}
@@ -17,10 +18,16 @@ mul-address c = search needs
 moved-requires : tie.Need-moved-requires
 moved-requires c κs = search needs
 
+acked-requires : tie.Need-acked-requires
+acked-requires c κs = search needs
+
 returns : tie.Need-returns
 unfolding byteIn
-returns c = λ file.
-    ap (λ (y : Rest). out Ack (stateOf file y)) (c .moved .ensures) ∙ simp (eq-eqb _ _ (c .before .if1 .taken))
+returns c =
+    let at = c .before .before in
+    λ file.
+    ap (λ (o : Out). out (o .answer) (stateOf file (o .rest))) (c .acked .ensures)
+    ∙ ap (λ (y : Rest). out Ack (stateOf file y)) (c .before .moved .ensures) ∙ simp (eq-eqb _ _ (at .if1 .taken))
 
 add-if2 : tie.Need-add-if2
 add-if2 c = search needs
@@ -28,26 +35,44 @@ add-if2 c = search needs
 moved-requires-2 : tie.Need-moved-requires-2
 moved-requires-2 c κs = search needs
 
+acked-requires-2 : tie.Need-acked-requires-2
+acked-requires-2 c κs = search needs
+
 returns-2 : tie.Need-returns-2
 unfolding byteIn
-returns-2 c = λ file.
-    ap (λ (y : Rest). out Ack (stateOf file y)) (c .moved2 .ensures) ∙ simp (ne-eqb _ _ (c .before .before .if1 .left), eq-eqb _ _ (c .before .if2 .taken))
+returns-2 c =
+    let at = c .before .before in
+    λ file.
+    ap (λ (o : Out). out (o .answer) (stateOf file (o .rest))) (c .acked2 .ensures)
+    ∙ ap (λ (y : Rest). out Ack (stateOf file y)) (c .before .moved2 .ensures) ∙ simp (ne-eqb _ _ (at .before .if1 .left), eq-eqb _ _ (at .if2 .taken))
 
 moved-requires-3 : tie.Need-moved-requires-3
 moved-requires-3 c κs = search needs
 
+acked-requires-3 : tie.Need-acked-requires-3
+acked-requires-3 c κs = search needs
+
 returns-3 : tie.Need-returns-3
 unfolding byteIn
-returns-3 c = λ file.
-    ap (λ (y : Rest). out Ack (stateOf file y)) (c .moved3 .ensures) ∙ simp (ne-eqb _ _ (c .before .before .before .if1 .left), ne-eqb _ _ (c .before .before .if2 .left), eq-eqb _ _ (c .before .if3 .taken))
+returns-3 c =
+    let at = c .before .before in
+    λ file.
+    ap (λ (o : Out). out (o .answer) (stateOf file (o .rest))) (c .acked3 .ensures)
+    ∙ ap (λ (y : Rest). out Ack (stateOf file y)) (c .before .moved3 .ensures) ∙ simp (ne-eqb _ _ (at .before .before .if1 .left), ne-eqb _ _ (at .before .if2 .left), eq-eqb _ _ (at .if3 .taken))
 
 moved-requires-4 : tie.Need-moved-requires-4
 moved-requires-4 c κs = search needs
 
+not-acked-requires : tie.Need-not-acked-requires
+not-acked-requires c κs = search needs
+
 returns-4 : tie.Need-returns-4
 unfolding byteIn
-returns-4 c = λ file.
-    ap (λ (y : Rest). out Nak (stateOf file y)) (c .moved4 .ensures) ∙ simp (ne-eqb _ _ (c .before .before .before .if1 .left), ne-eqb _ _ (c .before .before .if2 .left), ne-eqb _ _ (c .before .if3 .left))
+returns-4 c =
+    let at = c .before .before in
+    λ file.
+    ap (λ (o : Out). out (o .answer) (stateOf file (o .rest))) (c .not-acked .ensures)
+    ∙ ap (λ (y : Rest). out Nak (stateOf file y)) (c .before .moved4 .ensures) ∙ simp (ne-eqb _ _ (at .before .before .if1 .left), ne-eqb _ _ (at .before .if2 .left), ne-eqb _ _ (at .if3 .left))
 
 pub byte-opened-spec : {M : Type 1} → statement M
 byte-opened-spec =
@@ -56,11 +81,15 @@ byte-opened-spec =
     add-address
     mul-address
     moved-requires
+    acked-requires
     returns
     add-if2
     moved-requires-2
+    acked-requires-2
     returns-2
     moved-requires-3
+    acked-requires-3
     returns-3
     moved-requires-4
+    not-acked-requires
     returns-4)

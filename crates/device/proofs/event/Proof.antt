@@ -2,7 +2,7 @@ use borrow.Author.Needs.{needs}
 use mathlib.Core.Path.{sym, ap, _∙_}
 use Prim.Native.Nat.{ℕ}
 use Rattle.map.specs.Map.{part24}
-use Rattle.bus.specs.Device.{stepped}
+use Rattle.device.specs.Refusals.{stepped}
 use Rattle.bus.specs.Held.{stateOf}
 use Rattle.device.proofs.Images.{sound-of, unknown-kind, byte-refused, byte-taken, fetch-refused, fetch-taken, levels-refused, levels-taken}
 use native.Mathlib.Omega.{arith}

@@ -2,7 +2,8 @@ use borrow.Author.Needs.{needs}
 use mathlib.Core.Path.{sym, ap, _∙_}
 use Prim.Native.Nat.{ℕ}
 use Rattle.map.specs.Map.{part24}
-use Rattle.bus.specs.Device.{out, step, stepped}
+use Rattle.bus.specs.Device.{out, step}
+use Rattle.device.specs.Refusals.{stepped}
 use Rattle.bus.specs.Held.{stateOf}
 use Rattle.bus.specs.declared.Rest.{Rest}
 use Rattle.bus.specs.declared.Answer.the-variants.{Nothing}

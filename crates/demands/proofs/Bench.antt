@@ -1,0 +1,16 @@
+-- Every bench point holds of the specification, by computation. Assumes nothing.
+use lib.Dec.{T}
+use Rattle.bits.specs.Bits.{bit, tabulate, some}
+use Rattle.pins.specs.Pin.{openDrain, drive, isLow, isHigh, inputBit, pending, status, settle, matches, levelTo, inputFetched, clearWritten, maskWritten, edgeWritten, latchWritten, configurationWritten, reset}
+use Rattle.pins.specs.AllPins.{mapPins, asserted}
+use Rattle.pins.specs.OnePin.{pinAfter}
+use Rattle.map.specs.Map.{kindAt, reserved, next, defaults, fitting, fileFits}
+use Rattle.registers.specs.Registers.{drivenLow, drivenHigh, intAsserted, shownAs, writtenTo, writtenAs, fetchedAs, fetched, levelled}
+use Rattle.bus.specs.Device.{resetted, byteIn, fetchIn, step}
+use Rattle.device.specs.Refusals.{setsFit, imageFits, refusal, stepped}
+use Rattle.device.specs.PowerOn.{powerOn}
+use Rattle.demands.specs.Bench.{cases, all}
+
+pub all-cases : T (all cases)
+unfolding bit tabulate some openDrain drive isLow isHigh inputBit pending status settle matches levelTo inputFetched clearWritten maskWritten edgeWritten latchWritten configurationWritten reset mapPins asserted pinAfter kindAt reserved next defaults fitting fileFits drivenLow drivenHigh intAsserted shownAs writtenTo writtenAs fetchedAs fetched levelled resetted byteIn fetchIn step setsFit imageFits refusal stepped powerOn
+all-cases = tt

@@ -1,0 +1,7 @@
+pub mod Pinwise
+pub mod Machine
+pub mod Keeps
+pub mod Causes
+pub mod Transacting
+pub mod Bench
+pub mod Runs

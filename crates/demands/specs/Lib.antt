@@ -1,0 +1,4 @@
+pub mod Happens
+pub mod Run
+pub mod Transactions
+pub mod Bench
