@@ -78,7 +78,7 @@ module _ (s : State) (i : ℕ) (hi : i < 24) where
   unfolding resetted registersAfter pinAfter
   reset-pin = same-pin (reset-registers i hi) (pin-map 24 (s .regs .sets) (λ i. reset) i hi)
 
-  write-pin : length (s .regs .file) ≡ 128 → s .pointer < 128 → (b : ℕ)
+  pub write-pin : length (s .regs .file) ≡ 128 → s .pointer < 128 → (b : ℕ)
       → P (written part24 (s .regs) (s .pointer) b) ≡ after (writtenTo part24 (kindAt part24 (s .pointer)) (s .pointer) b i) (P (s .regs))
   unfolding writtenAs
   write-pin full hn b =

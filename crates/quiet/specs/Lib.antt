@@ -1,0 +1,4 @@
+pub mod Settings
+pub mod Order
+pub mod Route
+pub mod Quiet

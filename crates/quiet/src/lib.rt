@@ -1,0 +1,1 @@
+// What a quiet list of writes is, when there is one, and one of them: see specs/ and proofs/.
