@@ -6,3 +6,4 @@ pub mod Quietly
 pub mod Theorems
 pub mod Lift
 pub mod Exactly
+pub mod Standing

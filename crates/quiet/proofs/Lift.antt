@@ -271,7 +271,7 @@ others-stay s (w ∷ ws) full l n z (suc t) =
     others-stay (written part24 s (w .register) (w .value)) ws (stays-full s w full (l .0)) (l .2) n z t ∙ other-stays s w full (l .0) n z
 
 -- the writes of an orderly list are listed
-listed-of : (ws : List Write) → ((i : ℕ) → i < length ws → (placeOf shape24 (nth ws i) < 10) × (nth ws i .value < 256)) → Listed ws
+pub listed-of : (ws : List Write) → ((i : ℕ) → i < length ws → (placeOf shape24 (nth ws i) < 10) × (nth ws i .value < 256)) → Listed ws
 listed-of [] f = tt
 listed-of (w ∷ ws) f = (f 0 (omega arith) .0, f 0 (omega arith) .1, listed-of ws (λ i h. f (suc i) (omega arith)))
 

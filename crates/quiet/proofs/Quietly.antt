@@ -79,7 +79,7 @@ listOf (suc n) f = f zero ∷ listOf n (λ i. f (suc i))
 abbrev pub getsOf : List ℕ → ℕ → ℕ
 getsOf s i = getD s i 0
 
-listed : (n : ℕ) (s : List ℕ) → length s ≡ n → s ≡ listOf n (getsOf s)
+pub listed : (n : ℕ) (s : List ℕ) → length s ≡ n → s ≡ listOf n (getsOf s)
 listed zero [] h = refl
 listed zero (a ∷ s) h = absurd (omega arith)
 listed (suc n) [] h = absurd (omega arith)

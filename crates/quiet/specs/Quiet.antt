@@ -72,7 +72,6 @@ pub record QuietOn (s : Core) (goal : Settings) (ws : List Write) : Type 0 where
 -- registers and pins that a well-formed device may have
 pub record Formed (s : Core) : Type 0 where
   pub full : length (s .file) ≡ 128
-  pub bytes : (n : ℕ) → getD (s .file) n 0 < 256
   pub fits : fileFits part24 (s .file) ≡ true
   pub within : Within 24 (s .sets)
 
