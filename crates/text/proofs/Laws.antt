@@ -10,7 +10,7 @@ use lib.Dec.{eqb, lit<}
 use lib.ListN.{length, drop, getD, set}
 use lib.Seq.{drop-cons, sets}
 use borrow.Author.Tests.{ne-eqb, eq-eqb, lt-ltb, le-ltb, le-leb, lt-leb}
-use Rattle.text.specs.declared.Digits.the-variants.{Number, Unreadable}
+use Rattle.text.specs.declared.Digits.the-variants.{Number, None}
 use Rattle.text.specs.Text.{startsWith, digitOf, numberOf, fieldOf}
 
 pub starts-short : (word text : List ℕ) → length text < length word → startsWith word text ≡ false
@@ -29,7 +29,7 @@ module _ (word text : List ℕ) (i : ℕ) (in-word : i < length word) (in-text :
   starts-same h = rw (add-one, drop-cons word i 0, drop-cons text i 0, eq-eqb (getD text i 0) (getD word i 0) h)
 
 module _ (n : ℕ) (text : List ℕ) (i : ℕ) (in-text : i < length text) where
-  pub number-ends : 15 < digitOf (getD text i 0) → numberOf n (drop i text) ≡ Unreadable
+  pub number-ends : 15 < digitOf (getD text i 0) → numberOf n (drop i text) ≡ None
   unfolding numberOf
   number-ends h = rw (drop-cons text i 0, le-ltb (digitOf (getD text i 0)) 16 (omega arith))
 
@@ -77,11 +77,11 @@ pub power-fits : (n i : ℕ) → n < 16 ^ i → i ≤ 15 → n < 2 ^ 60
 power-fits n i h l = lt-of-lt-of-le h (pow-le-pow-right (lit< tt) l)
 
 module _ (count most : ℕ) (text : List ℕ) (all : length text ≡ count) where
-  pub field-none : numberOf 0 text ≡ Unreadable → Unreadable ≡ fieldOf count most text
+  pub field-none : numberOf 0 text ≡ None → None ≡ fieldOf count most text
   unfolding fieldOf
   field-none h = rw (eq-eqb (length text) count all, h)
 
-  pub field-over : {n : ℕ} → numberOf 0 text ≡ Number n → most < n → Unreadable ≡ fieldOf count most text
+  pub field-over : {n : ℕ} → numberOf 0 text ≡ Number n → most < n → None ≡ fieldOf count most text
   unfolding fieldOf
   field-over {n} h l = rw (eq-eqb (length text) count all, h, lt-leb n most l)
 

@@ -5,7 +5,7 @@ use Prim.Native.Nat.{ℕ, zero, suc, _+_, _-_, _*_, _/_, _%_}
 use lib.Dec.{eqb, leb, ltb}
 use lib.ListN.{length}
 use Rattle.text.specs.declared.Digits.{Digits}
-use Rattle.text.specs.declared.Digits.the-variants.{Number, Unreadable}
+use Rattle.text.specs.declared.Digits.the-variants.{Number, None}
 
 -- whether the text begins with the word, and whether it is the word
 unfoldable pub startsWith : (word text : List ℕ) → Bool
@@ -23,15 +23,15 @@ digitOf b = cond (leb 0x30 b && leb b 0x39) (b - 0x30) (cond (leb 0x61 b && leb 
 -- the number that the digits stand for, highest first, after those that stand for n
 unfoldable pub numberOf : ℕ → List ℕ → Digits
 numberOf n [] = Number n
-numberOf n (b ∷ text) = cond (ltb (digitOf b) 16) (numberOf (16 * n + digitOf b) text) Unreadable
+numberOf n (b ∷ text) = cond (ltb (digitOf b) 16) (numberOf (16 * n + digitOf b) text) None
 
 abbrev pub upTo : (most : ℕ) → Digits → Digits
-upTo most (Number n) = cond (leb n most) (Number n) Unreadable
-upTo most Unreadable = Unreadable
+upTo most (Number n) = cond (leb n most) (Number n) None
+upTo most None = None
 
 -- so many digits, no more and no fewer, of a number that is most or less
 unfoldable pub fieldOf : (count most : ℕ) → List ℕ → Digits
-fieldOf count most text = cond (eqb (length text) count) (upTo most (numberOf 0 text)) Unreadable
+fieldOf count most text = cond (eqb (length text) count) (upTo most (numberOf 0 text)) None
 
 -- the digit of a number below 16
 abbrev pub digitByte : ℕ → ℕ

@@ -7,7 +7,7 @@ ghost use Rattle.text.specs.Text.{startsWith, isWord, digitOf, numberOf,
 
 pub enum Digits {
     Number(u64),
-    Unreadable,
+    None,
 }
 
 // Whether s begins with the word.
@@ -66,7 +66,7 @@ fn number(s: &[u8]) -> Digits
     while i < s.len() {
         let d = digit(s[i]);
         if 15 < d {
-            return Digits::Unreadable;
+            return Digits::None;
         }
         n = 16 * n + d;
         i += 1;
@@ -80,14 +80,14 @@ pub fn field(s: &[u8], count: usize, most: u64) -> Digits
     ensures { λ r. ⌜ r ≡ fieldOf count most (now (s .entry)) ⌝ }
 {
     if s.len() != count {
-        return Digits::Unreadable;
+        return Digits::None;
     }
     let d = number(s);
     let Digits::Number(n) = d else {
-        return Digits::Unreadable;
+        return Digits::None;
     };
     if most < n {
-        return Digits::Unreadable;
+        return Digits::None;
     }
     Digits::Number(n)
 }
