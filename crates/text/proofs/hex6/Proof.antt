@@ -1,0 +1,38 @@
+use borrow.Author.Needs.{needs}
+use Rattle.text.specs.Text.{hexText}
+use Rattle.text.proofs.hex6.Statement.{statement}
+use Rattle.text.proofs.hex6.Tie as tie
+
+low-digit-requires : tie.Need-low-digit-requires
+low-digit-requires c κs = search needs
+
+low-digit-requires-2 : tie.Need-low-digit-requires-2
+low-digit-requires-2 c κs = search needs
+
+low-digit-requires-3 : tie.Need-low-digit-requires-3
+low-digit-requires-3 c κs = search needs
+
+low-digit-requires-4 : tie.Need-low-digit-requires-4
+low-digit-requires-4 c κs = search needs
+
+low-digit-requires-5 : tie.Need-low-digit-requires-5
+low-digit-requires-5 c κs = search needs
+
+low-digit-requires-6 : tie.Need-low-digit-requires-6
+low-digit-requires-6 c κs = search needs
+
+returns : tie.Need-returns
+unfolding hexText
+returns c = cc
+
+pub hex6-spec : {M : Type 1} → statement M
+hex6-spec =
+    tie.close
+    (tie.spec
+    low-digit-requires
+    low-digit-requires-2
+    low-digit-requires-3
+    low-digit-requires-4
+    low-digit-requires-5
+    low-digit-requires-6
+    returns)

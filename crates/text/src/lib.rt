@@ -1,0 +1,143 @@
+// Text as bytes: words and lowercase hex digits, read from slices and written into lent memory.
+ghost use mathlib.Core.Path.{_≡_};
+ghost use Prim.Native.Nat.{_+_, _<_, _≤_, _%_};
+ghost use lib.ListN.{length};
+ghost use lib.Seq.{sets};
+ghost use Rattle.text.specs.Text.{startsWith, isWord, digitOf, numberOf, fieldOf, digitByte, hexText};
+
+pub enum Digits {
+    Number(u64),
+    None,
+}
+
+// Whether s begins with the word.
+pub fn starts(s: &[u8], word: &[u8]) -> bool
+    ensures { λ r. ⌜ r ≡ startsWith (now (word .entry)) (now (s .entry)) ⌝ }
+{
+    if s.len() < word.len() {
+        return false;
+    }
+    let mut i = 0;
+    while i < word.len() {
+        if s[i] != word[i] {
+            return false;
+        }
+        i += 1;
+    }
+    true
+}
+
+// Whether s is the word.
+pub fn is(s: &[u8], word: &[u8]) -> bool
+    ensures { λ r. ⌜ r ≡ isWord (now (word .entry)) (now (s .entry)) ⌝ }
+{
+    if s.len() != word.len() {
+        return false;
+    }
+    starts(s, word)
+}
+
+// The number that a digit stands for, 16 where the byte is none.
+fn digit(b: u8) -> u64
+    ensures { λ r. ⌜ r ≡ digitOf b ⌝ }
+{
+    if b < 0x30 {
+        return 16;
+    }
+    if b < 0x3a {
+        return (b - 0x30) as u64;
+    }
+    if b < 0x61 {
+        return 16;
+    }
+    if b < 0x67 {
+        return (b - 0x57) as u64;
+    }
+    16
+}
+
+// The number that the digits of s stand for.
+fn number(s: &[u8]) -> Digits
+    requires { ⌜ length (now s) ≤ 15 ⌝ }
+    ensures { λ r. ⌜ r ≡ numberOf 0 (now (s .entry)) ⌝ }
+{
+    let mut n = 0u64;
+    let mut i = 0;
+    while i < s.len() {
+        let d = digit(s[i]);
+        if 15 < d {
+            return Digits::None;
+        }
+        n = 16 * n + d;
+        i += 1;
+    }
+    Digits::Number(n)
+}
+
+// So many digits of a number that is most or less.
+pub fn field(s: &[u8], count: usize, most: u64) -> Digits
+    requires { ⌜ count ≤ 15 ⌝ }
+    ensures { λ r. ⌜ r ≡ fieldOf count most (now (s .entry)) ⌝ }
+{
+    if s.len() != count {
+        return Digits::None;
+    }
+    let d = number(s);
+    let Digits::Number(n) = d else {
+        return Digits::None;
+    };
+    if most < n {
+        return Digits::None;
+    }
+    Digits::Number(n)
+}
+
+// The digit of a number below 16.
+pub fn digit_byte(n: u8) -> u8
+    requires { ⌜ n < 16 ⌝ }
+    ensures { λ r. ⌜ r ≡ digitByte n ⌝ }
+{
+    if n < 10 {
+        return 0x30 + n;
+    }
+    0x57 + n
+}
+
+pub fn hex2(n: u8) -> [u8; 2]
+    ensures { λ r. ⌜ r ≡ hexText 2 n ⌝ }
+{
+    [digit_byte(n / 16 % 16), digit_byte(n % 16)]
+}
+
+// The lowest digit of a wider number.
+fn low_digit(n: u64) -> u8
+    ensures { λ r. ⌜ r ≡ digitByte (n % 16) ⌝ }
+{
+    digit_byte((n % 16) as u8)
+}
+
+pub fn hex6(n: u64) -> [u8; 6]
+    ensures { λ r. ⌜ r ≡ hexText 6 n ⌝ }
+{
+    [
+        low_digit(n / 16 / 16 / 16 / 16 / 16),
+        low_digit(n / 16 / 16 / 16 / 16),
+        low_digit(n / 16 / 16 / 16),
+        low_digit(n / 16 / 16),
+        low_digit(n / 16),
+        low_digit(n),
+    ]
+}
+
+// Puts the text into out from at on, and says where it ends.
+pub fn put(out: &mut [u8], at: usize, text: &[u8]) -> usize
+    requires { ⌜ at + length (now text) ≤ length (now out) ⌝ }
+    ensures { λ r. ⌜ (r ≡ at + length (now (text .entry))) × (now (out .exit) ≡ sets (now (out .entry)) at (now (text .entry))) ⌝ }
+{
+    let mut i = 0;
+    while i < text.len() {
+        out[at + i] = text[i];
+        i += 1;
+    }
+    at + i
+}
