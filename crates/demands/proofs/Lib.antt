@@ -3,5 +3,4 @@ pub mod Machine
 pub mod Keeps
 pub mod Causes
 pub mod Transacting
-pub mod Bench
 pub mod Runs

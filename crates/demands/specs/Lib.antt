@@ -1,4 +1,3 @@
 pub mod Happens
 pub mod Run
 pub mod Transactions
-pub mod Bench

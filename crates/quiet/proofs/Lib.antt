@@ -7,3 +7,4 @@ pub mod Theorems
 pub mod Lift
 pub mod Exactly
 pub mod Standing
+pub mod OverBus

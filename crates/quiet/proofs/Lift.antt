@@ -65,7 +65,7 @@ module _ (file : List ℕ) (r v : ℕ) (h : r < length file) where
       go rest false q = ap₂ (λ (a : ℕ) (l : List ℕ). a ∷ l) (getD-set-other file r x v 0 (eqb-false x r q)) rest
 
 -- ---- the ten: their numbers, their kinds, and what a write to one of them stores
-tens : (P : ℕ → Bool) → ((q : ℕ) → q < 10 → P (getD (shape24 .registers) q 0) ≡ true) → (r : ℕ) → isPlanned r → P r ≡ true
+pub tens : (P : ℕ → Bool) → ((q : ℕ) → q < 10 → P (getD (shape24 .registers) q 0) ≡ true) → (r : ℕ) → isPlanned r → P r ≡ true
 tens P f r h = subst (λ (n : ℕ). P n ≡ true) (found (shape24 .registers) r h) (f (place (shape24 .registers) r) h)
 
 pub planned-small : (r : ℕ) → isPlanned r → r < 128

@@ -9,8 +9,10 @@ use Rattle.registers.specs.Registers.{drivenLow, drivenHigh, intAsserted, shown
 use Rattle.bus.specs.Device.{resetted, byteIn, fetchIn, step}
 use Rattle.device.specs.Refusals.{setsFit, imageFits, refusal, stepped}
 use Rattle.device.specs.PowerOn.{powerOn}
-use Rattle.demands.specs.Bench.{cases, all}
+use Rattle.quiet.specs.Route.{midConfiguration, midOutput, planOf}
+use Rattle.planner.specs.Answer.{answerOf}
+use Rattle.points.specs.Bench.{cases, all}
 
 pub all-cases : T (all cases)
-unfolding bit tabulate some openDrain drive isLow isHigh inputBit pending status settle matches levelTo inputFetched clearWritten maskWritten edgeWritten latchWritten configurationWritten reset mapPins asserted pinAfter kindAt reserved next defaults fitting fileFits drivenLow drivenHigh intAsserted shownAs writtenTo writtenAs fetchedAs fetched levelled resetted byteIn fetchIn step setsFit imageFits refusal stepped powerOn
+unfolding bit tabulate some openDrain drive isLow isHigh inputBit pending status settle matches levelTo inputFetched clearWritten maskWritten edgeWritten latchWritten configurationWritten reset mapPins asserted pinAfter kindAt reserved next defaults fitting fileFits drivenLow drivenHigh intAsserted shownAs writtenTo writtenAs fetchedAs fetched levelled resetted byteIn fetchIn step setsFit imageFits refusal stepped powerOn answerOf planOf midConfiguration midOutput
 all-cases = tt

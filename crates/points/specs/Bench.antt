@@ -1,9 +1,9 @@
--- The bench points: events from power-on at address choice 0 with all levels 0, what one looks at after the last, and what must be seen.
+-- The bench points of device and planner, one table: what is done, what one looks at, and what must be seen.
 use mathlib.Core.Bool.{Bool, true, false, _&&_}
 use mathlib.Core.List.{List, [], _∷_, _++_}
 use Prim.Native.Nat.{ℕ}
 use lib.Dec.{eqb}
-use lib.ListN.{getD}
+use lib.ListN.{getD, length}
 use Rattle.bits.specs.Bits.{val}
 use Rattle.map.specs.Map.{part24}
 use Rattle.registers.specs.Registers.{drivenLow, drivenHigh, intAsserted}
@@ -12,16 +12,17 @@ use Rattle.device.specs.Refusals.{stepped}
 use Rattle.bus.specs.Answers.{answerKind, answerByte}
 use Rattle.bus.specs.declared.Answer.the-variants.{Nothing}
 use Rattle.device.specs.PowerOn.{powerOn}
 use Rattle.demands.specs.Run.{Asked}
+use Rattle.quiet.specs.Settings.{Settings}
+use Rattle.planner.specs.Answer.{Answer, answerOf}
+use Rattle.planner.specs.Answer.Answer.{refuse, give}
 use Rattle.demands.specs.Transactions.{ask, START, STOP, sent, toWrite, writeOver, readOver, readOn}
 
-pub record Case : Type 0 where
-  pub events : List Asked
-  pub look : Outcome → ℕ
-  pub seen : ℕ
-
-abbrev pub case : List Asked → (Outcome → ℕ) → ℕ → Case
-case events look seen = record { events = events; look = look; seen = seen }
+pub data Case : Type 0 where
+  -- events from power-on at address choice 0 with all levels 0; one looks at the last outcome
+  case : List Asked → (Outcome → ℕ) → (seen : ℕ) → Case
+  -- a start, a goal and a buffer of so many bytes; one looks at the planner's answer
+  planned : (start goal : Settings) → (room : ℕ) → (Answer → ℕ) → (seen : ℕ) → Case
 
 -- the last outcome
 abbrev pub last : Outcome → List Asked → Outcome
@@ -29,7 +30,8 @@ last o [] = o
 last o (e ∷ es) = last (stepped part24 (o .after) (e .kind) (e .arg)) es
 
 abbrev pub holds : Case → Bool
-holds c = eqb (c .look (last (out Nothing (powerOn part24 0 0)) (c .events))) (c .seen)
+holds (case events look seen) = eqb (look (last (out Nothing (powerOn part24 0 0)) events)) seen
+holds (planned start goal room look seen) = eqb (look (answerOf start goal room)) seen
 
 abbrev pub all : List Case → Bool
 all [] = true
@@ -65,6 +67,20 @@ lowIs o = drivenLow part24 (o .after .regs)
 abbrev pub registerIs : ℕ → Outcome → ℕ
 registerIs n o = getD (o .after .regs .file) n 0
 
+-- the number of the planner's refusal, 0 where a plan is given; and the number of its writes
+abbrev pub refusalIs : Answer → ℕ
+refusalIs (refuse n) = n
+refusalIs (give ws) = 0
+
+abbrev pub countIs : Answer → ℕ
+countIs (refuse n) = 0
+countIs (give ws) = length ws
+
+-- settings of port 0, every pin of the other ports an input with output 1 and kinds 0
+abbrev pub port0 : (output configuration portKind pinKind : ℕ) → Settings
+port0 output configuration portKind pinKind =
+    output ∷ 0xff ∷ 0xff ∷ configuration ∷ 0xff ∷ 0xff ∷ portKind ∷ pinKind ∷ 0x00 ∷ 0x00 ∷ []
+
 -- the command n and one data byte: the pointer has stepped once
 abbrev pub steppedFrom : ℕ → List Asked
 steppedFrom n = START ∷ toWrite 0 ∷ sent n ∷ sent 0x00 ∷ []
@@ -95,4 +111,15 @@ cases =
     ∷ case (write 0x04 0x00 ++ (START ∷ sent 0x00 ∷ sent 0x06 ∷ STOP ∷ [])) (registerIs 0x04) 0xff
     -- command 03h: no acknowledge
     ∷ case (START ∷ toWrite 0 ∷ sent 0x03 ∷ []) answerIs 2
+    -- pin 0 high at both ends, its port bit in 5C and its own bit in 70 both from 0 to 1: refusal 4
+    ∷ planned (port0 0xff 0xfe 0x00 0x00) (port0 0xff 0xfe 0x01 0x01) 32 refusalIs 4
+    -- the same with output 0, every other pin an input at both ends: a plan
+    ∷ planned (port0 0xfe 0xfe 0x00 0x00) (port0 0xfe 0xfe 0x01 0x01) 32 refusalIs 0
+    ∷ planned (port0 0xfe 0xfe 0x00 0x00) (port0 0xfe 0xfe 0x01 0x01) 32 countIs 2
+    -- pin 0 from driven high to input with output 0, pin 1 the reverse: three writes
+    ∷ planned (port0 0xfd 0xfe 0x00 0x00) (port0 0xfe 0xfd 0x00 0x00) 32 countIs 3
+    -- a buffer of 32 bytes passes, one of 31 does not, however short the plan; and a malformed goal comes first
+    ∷ planned (port0 0xff 0xff 0x00 0x00) (port0 0xff 0xff 0x00 0x00) 32 refusalIs 0
+    ∷ planned (port0 0xff 0xff 0x00 0x00) (port0 0xff 0xff 0x00 0x00) 31 refusalIs 6
+    ∷ planned (port0 0xff 0xff 0x00 0x00) (port0 0xff 0xff 0x08 0x00) 31 refusalIs 5
     ∷ []

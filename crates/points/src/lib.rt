@@ -1,0 +1,1 @@
+// The bench points, one table: see specs/Bench.antt.
