@@ -7,11 +7,11 @@ use native.Mathlib.Numerals.{add-one}
 use native.Mathlib.Nat.{pow-suc, pow-le-pow-right, lt-of-lt-of-le}
 use native.Mathlib.Omega.{arith}
 use lib.Dec.{eqb, lit<}
-use lib.ListN.{length, drop, getD, set}
-use lib.Seq.{drop-cons, sets}
+use lib.ListN.{length, drop, getD, set, length-append}
+use lib.Seq.{drop-cons, sets, length-sets}
 use borrow.Author.Tests.{ne-eqb, eq-eqb, lt-ltb, le-ltb, le-leb, lt-leb}
 use Rattle.text.specs.declared.Digits.the-variants.{Number, None}
-use Rattle.text.specs.Text.{startsWith, digitOf, numberOf, fieldOf}
+use Rattle.text.specs.Text.{startsWith, digitOf, numberOf, fieldOf, Wrote}
 
 pub starts-short : (word text : List ℕ) → length text < length word → startsWith word text ≡ false
 unfolding startsWith
@@ -59,7 +59,7 @@ module _ (b : ℕ) where
   digit-over l = simp (le-leb 0x30 b (omega arith), lt-leb b 0x39 (omega arith), le-leb 0x61 b (omega arith), lt-leb b 0x66 (omega arith))
 
 -- a run of stores, then another from where it ended
-pub sets-append : (out : List ℕ) (at : ℕ) (s t : List ℕ) → sets (sets out at s) (at + length s) t ≡ sets out at (s ++ t)
+sets-append : (out : List ℕ) (at : ℕ) (s t : List ℕ) → sets (sets out at s) (at + length s) t ≡ sets out at (s ++ t)
 sets-append out at [] t = ap (λ (k : ℕ). sets out k t) (omega arith)
 sets-append out at (b ∷ s) t = ap (λ (k : ℕ). sets (sets (set out at b) (suc at) s) k t) (omega arith) ∙ sets-append (set out at b) (suc at) s t
 
@@ -88,3 +88,18 @@ module _ (count most : ℕ) (text : List ℕ) (all : length text ≡ count) wher
   pub field-read : {n : ℕ} → numberOf 0 text ≡ Number n → n ≤ most → Number n ≡ fieldOf count most text
   unfolding fieldOf
   field-read {n} h l = rw (eq-eqb (length text) count all, h, le-leb n most l)
+
+-- two texts, one after the other, are their join
+pub wrote-both : {out middle left s t : List ℕ} {at end last : ℕ} → Wrote out at s end middle → Wrote middle end t last left → Wrote out at (s ++ t) last left
+wrote-both {out} {middle} {left} {s} {t} {at} {end} a b =
+    record {
+      ends = omega (arith, length-append s t);
+      holds = b .holds ∙ ap (λ (x : List ℕ). sets x end t) (a .holds) ∙ ap (λ (k : ℕ). sets (sets out at s) k t) (a .ends) ∙ sets-append out at s t;
+    }
+
+pub wrote-length : {out left s : List ℕ} {at end : ℕ} → Wrote out at s end left → length left ≡ length out
+wrote-length {out} {left} {s} {at} a = ap length (a .holds) ∙ length-sets out at s
+
+-- the text may be said in another way
+pub wrote-as : {out left s t : List ℕ} {at end : ℕ} → s ≡ t → Wrote out at s end left → Wrote out at t end left
+wrote-as e a = rw e at a

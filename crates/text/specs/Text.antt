@@ -1,9 +1,11 @@
 -- Text as bytes: words and lowercase hex digits.
+use mathlib.Core.Path.{_≡_}
 use mathlib.Core.Bool.{Bool, false, true, cond, _&&_}
 use mathlib.Core.List.{List, [], _∷_, _++_}
 use Prim.Native.Nat.{ℕ, zero, suc, _+_, _-_, _*_, _/_, _%_}
 use lib.Dec.{eqb, leb, ltb}
 use lib.ListN.{length}
+use lib.Seq.{sets}
 use Rattle.text.specs.declared.Digits.{Digits}
 use Rattle.text.specs.declared.Digits.the-variants.{Number, None}
 
@@ -41,3 +43,8 @@ digitByte n = cond (ltb n 10) (0x30 + n) (0x57 + n)
 unfoldable pub hexText : (count n : ℕ) → List ℕ
 hexText zero n = []
 hexText (suc count) n = hexText count (n / 16) ++ (digitByte (n % 16) ∷ [])
+
+-- what writing a text into out from at on leaves, and where it ends: every other byte stays
+pub record Wrote (out : List ℕ) (at : ℕ) (text : List ℕ) (end : ℕ) (left : List ℕ) : Type 0 where
+  pub ends : end ≡ at + length text
+  pub holds : left ≡ sets out at text

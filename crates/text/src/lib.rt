@@ -2,8 +2,7 @@
 ghost use mathlib.Core.Path.{_≡_};
 ghost use Prim.Native.Nat.{_+_, _<_, _≤_, _%_};
 ghost use lib.ListN.{length};
-ghost use lib.Seq.{sets};
-ghost use Rattle.text.specs.Text.{startsWith, isWord, digitOf, numberOf, fieldOf, digitByte, hexText};
+ghost use Rattle.text.specs.Text.{startsWith, isWord, digitOf, numberOf, fieldOf, digitByte, hexText, Wrote};
 
 pub enum Digits {
     Number(u64),
@@ -132,7 +131,7 @@ pub fn hex6(n: u64) -> [u8; 6]
 // Puts the text into out from at on, and says where it ends.
 pub fn put(out: &mut [u8], at: usize, text: &[u8]) -> usize
     requires { ⌜ at + length (now text) ≤ length (now out) ⌝ }
-    ensures { λ r. ⌜ (r ≡ at + length (now (text .entry))) × (now (out .exit) ≡ sets (now (out .entry)) at (now (text .entry))) ⌝ }
+    ensures { λ r. ⌜ Wrote (now (out .entry)) at (now (text .entry)) r (now (out .exit)) ⌝ }
 {
     let mut i = 0;
     while i < text.len() {

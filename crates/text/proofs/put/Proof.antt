@@ -47,7 +47,7 @@ returns : tie.Need-returns Inv-loop μ-loop
 returns c =
     let l = c .before in
     let e : l .loop .i ≡ length (l .before .args .text .now) = omega arith in
-    (search needs, rw (e, drop-length) at (l .loop .inv .2))
+    record { ends = search needs; holds = rw (e, drop-length) at (l .loop .inv .2) }
 
 pub put-spec : {M : Type 1} → statement M
 put-spec =

@@ -1,0 +1,57 @@
+-- What the code's cases say of a line. Assumes nothing.
+use mathlib.Core.Path.{_≡_, refl, ap, sym, _∙_}
+use mathlib.Core.Bool.{Bool, true, false}
+use mathlib.Core.List.{List}
+use Prim.Native.Nat.{ℕ, _<_, _≤_}
+use native.Mathlib.Omega.{arith}
+use borrow.Author.Tests.{le-leb, lt-ltb}
+use Rattle.map.specs.Map.{part24}
+use Rattle.registers.specs.Registers.{drivenLow, drivenHigh, intAsserted}
+use Rattle.bus.specs.Device.{State, Outcome, out}
+use Rattle.bus.specs.declared.Answer.{Answer}
+use Rattle.bus.specs.declared.Answer.the-variants.{Nothing}
+use Rattle.device.specs.Refusals.{stepped}
+use Rattle.device.specs.PowerOn.{stateIn, powerOn, makingRefused, MadeOf}
+use Rattle.device.specs.declared.Device.{Device}
+use Rattle.lines.specs.declared.Line.{Line}
+use Rattle.lines.specs.declared.Line.the-variants.{Event, Unreadable, Device as MadeLine}
+use Rattle.lines.specs.Lines.{lineOf}
+use Rattle.lines.proofs.Laws.{line-makes}
+use Rattle.answers.specs.Answers.{answerLine}
+use Rattle.tracing.specs.declared.Desk.{Desk}
+use Rattle.tracing.specs.Tracing.{Session, Traced, sessionOf, shownLine, told, unreadable, traced, Says}
+
+-- what is said may be said in another way
+pub says-as : {t u : Traced} {out : List ℕ} {at end : ℕ} {left : List ℕ} {d : Desk} → t ≡ u → Says t out at end left d → Says u out at end left d
+says-as e s = rw e at s
+
+pub told-line : (a : Answer) (s : State) (int : Bool) (low high : ℕ) → int ≡ intAsserted part24 (s .regs) → low ≡ drivenLow part24 (s .regs) → high ≡ drivenHigh part24 (s .regs)
+    → answerLine a int low high ≡ shownLine (out a s)
+unfolding shownLine
+told-line a s int low high e f g = rw (e, f, g)
+
+module _ (d : Desk) (kind arg : ℕ) where
+  pub event-told : (o : Outcome) → d .has ≡ true → o ≡ stepped part24 (stateIn (d .device)) kind arg → told o ≡ traced (sessionOf d) (Event kind arg)
+  unfolding traced
+  event-told o h e = rw (h, e)
+
+  pub event-refused : d .has ≡ false → unreadable (sessionOf d) ≡ traced (sessionOf d) (Event kind arg)
+  unfolding traced
+  event-refused h = rw h
+
+module _ (x : Session) (said : Line) (line : List ℕ) (read : said ≡ lineOf line) where
+  pub device-told : {choice levels refusal : ℕ} {d : Device} → said ≡ MadeLine choice levels → MadeOf part24 choice levels refusal d
+      → told (out Nothing (stateIn d)) ≡ traced x (lineOf line)
+  unfolding traced
+  device-told {choice} {levels} {refusal} {d} e m =
+      rw (← read, e, m .made (rw (le-leb choice 3 (fits .0), lt-ltb levels 16777216 (omega (arith, fits .1)))))
+    where
+      fits : (choice ≤ 3) × (levels ≤ 0xffffff)
+      fits = line-makes line .makes choice levels (sym read ∙ e)
+
+  pub event-said : {kind arg : ℕ} → said ≡ Event kind arg → traced x (Event kind arg) ≡ traced x (lineOf line)
+  event-said e = rw (← read, e)
+
+  pub unreadable-said : said ≡ Unreadable → unreadable x ≡ traced x (lineOf line)
+  unfolding traced
+  unreadable-said e = rw (← read, e)

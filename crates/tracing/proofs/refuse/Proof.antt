@@ -1,0 +1,18 @@
+use borrow.Author.Needs.{needs}
+use mathlib.Core.Path.{refl}
+use Rattle.answers.specs.Answers.{answerLine}
+use Rattle.tracing.proofs.refuse.Statement.{statement}
+use Rattle.tracing.proofs.refuse.Tie as tie
+
+put-line-requires : tie.Need-put-line-requires
+put-line-requires c κs = search needs
+
+same-length : tie.Need-same-length
+same-length c = search needs
+
+returns : tie.Need-returns
+unfolding answerLine
+returns c = record { says = c .before .before .put-line .ensures; goes-on = refl }
+
+pub refuse-spec : {M : Type 1} → statement M
+refuse-spec = tie.close (tie.spec put-line-requires same-length returns)
