@@ -1,14 +1,18 @@
 -- A port's four bytes are what the settings say of its pins. Assumes nothing.
 use mathlib.Core.Path.{_≡_, sym, ap, ap₂, _∙_}
 use mathlib.Core.Bool.{Bool, not, _||_, or-false}
-use Prim.Native.Nat.{ℕ, _+_, _*_, _/_, _<_}
+use mathlib.Core.List.{[], _∷_}
+use Prim.Native.Nat.{ℕ, _+_, _*_, _/_, _%_, _<_}
+use native.Mathlib.Nat.{mod-lt, div-lt-iff-lt-mul}
 use native.Mathlib.Omega.{arith}
 use lib.Arith.{digits-div}
 use lib.Dec.{eqb}
+use lib.ListN.{getD}
 use Rattle.bits.specs.Bits.{bit, tabulate, some}
 use Rattle.bits.proofs.Laws.{tabulate-ext}
 use Rattle.bits.proofs.Laws.{pin-of, some-bit, some-ext, tabulate-lt, bit-tabulate}
-use Rattle.ports.specs.Ports.{byteOf}
+use Rattle.ports.specs.Ports.{byteOf, bytesBit}
+use Rattle.ports.proofs.Bytes.{three}
 use Rattle.quiet.specs.Settings.{shape24, Settings, PinBits, bitsOf}
 use Rattle.quiet.specs.Order.{stuck}
 use Rattle.quiet.specs.Route.{midConfiguration, midOutput, midConfigurations, midOutputs}
@@ -46,3 +50,13 @@ some-of f {r} e = ap (λ (n : ℕ). not (eqb n 0)) e ∙ some-bit 8 (tabulate-lt
 pub three-ports : (f : ℕ → Bool) {a b c : Bool} → a ≡ f 0 → b ≡ f 1 → c ≡ f 2 → (a || (b || c)) ≡ some 3 f
 unfolding some
 three-ports f p q r = ap₂ (λ (u v : Bool). u || v) p (ap₂ (λ (u v : Bool). u || v) q (r ∙ sym (or-false (f 2))))
+
+-- the stuck pins of three ports, joined
+pub stuck-bit : (s g : Settings) (a b c : ℕ) → a ≡ tabulate 8 (λ j. stuck (bitsOf shape24 s 0 j) (bitsOf shape24 g 0 j))
+    → b ≡ tabulate 8 (λ j. stuck (bitsOf shape24 s 1 j) (bitsOf shape24 g 1 j)) → c ≡ tabulate 8 (λ j. stuck (bitsOf shape24 s 2 j) (bitsOf shape24 g 2 j))
+    → (i : ℕ) → i < 24 → bytesBit (a ∷ b ∷ c ∷ []) i ≡ stuck (bitsOf shape24 s (i / 8) (i % 8)) (bitsOf shape24 g (i / 8) (i % 8))
+stuck-bit s g a b c p q r i h =
+    let eight : 0 < 8 = omega arith in
+    pin-of 8 (λ j. stuck (bitsOf shape24 s (i / 8) j) (bitsOf shape24 g (i / 8) j))
+    (three (λ (k : ℕ). getD (a ∷ b ∷ c ∷ []) k 0 ≡ tabulate 8 (λ j. stuck (bitsOf shape24 s k j) (bitsOf shape24 g k j))) p q r (i / 8) (div-lt-iff-lt-mul eight .1 h))
+    (i % 8) (mod-lt i eight)

@@ -1,19 +1,18 @@
 -- The answer keeps the promise. Assumes nothing.
-use mathlib.Core.Path.{_≡_, refl, sym, ap, subst, _∙_}
-use mathlib.Core.Bool.{Bool, true, false, cond, _&&_}
-use mathlib.Core.List.{List, [], _∷_, _++_}
-use mathlib.Core.Logic.{_⊎_, inl, inr}
-use Prim.Native.Nat.{ℕ, suc, _*_, _<_, _≤_}
+use mathlib.Core.Path.{_≡_, refl, sym, ap, _∙_}
+use mathlib.Core.Bool.{Bool, true, false, _&&_}
+use mathlib.Core.List.{List, _++_}
+use mathlib.Core.Logic.{inl, inr}
+use Prim.Native.Nat.{ℕ, _*_, _<_, _≤_}
 use native.Mathlib.Omega.{arith}
 use borrow.Author.Tests.{ltb-true, ltb-false}
 use lib.Dec.{ltb}
 use lib.ListN.{length, getD, drop}
 use Rattle.bits.proofs.Decide.{clash}
-use Rattle.registers.specs.Registers.{Core}
-use Rattle.quiet.specs.Settings.{shape24, Settings, Write, placeOf, nth}
+use Rattle.quiet.specs.Settings.{shape24, Settings, Write}
 use Rattle.quiet.specs.Order.{Sound, Orderly, blocked}
 use Rattle.quiet.specs.Route.{planOf, bytesOf}
-use Rattle.quiet.specs.Quiet.{QuietOn, Quiet, Formed, Listed, settingsOf}
+use Rattle.quiet.specs.Quiet.{Quiet, Listed}
 use Rattle.quiet.proofs.Theorems.{orderly, unmoved}
 use Rattle.quiet.proofs.Lift.{listed-of}
 use Rattle.quiet.proofs.Exactly.{none-on, plan-quiet}

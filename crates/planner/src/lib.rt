@@ -1,8 +1,9 @@
 // The planner: from a start to a goal for the ten registers that set direction, output level and output kind.
 ghost use mathlib.Core.Path.{_≡_};
-ghost use Prim.Native.Nat.{_<_, _≤_};
+ghost use mathlib.Core.Bool.{_&&_, true};
+ghost use Prim.Native.Nat.{ℕ, _/_, _%_, _<_, _≤_};
 ghost use lib.ListN.{length, getD};
-ghost use Rattle.bits.specs.Bits.{tabulate};
+ghost use Rattle.bits.specs.Bits.{bit, tabulate};
 ghost use Rattle.quiet.specs.Settings.{shape24, bitsOf};
 ghost use Rattle.quiet.specs.Order.{stuck, blocked};
 ghost use Rattle.quiet.specs.Route.{midConfiguration, midOutput};
@@ -234,4 +235,21 @@ pub fn plan(start: &[u8], goal: &[u8], buf: &mut [u8]) -> Planned
         return Planned::Refused(4);
     }
     Planned::Writes(lay(start, goal, buf))
+}
+
+// The pins that are stuck, for whoever explains a refusal 4; none where a start or goal is malformed.
+pub fn stuck_pins(start: &[u8], goal: &[u8]) -> u64
+    ensures { λ r. ⌜ ((formed (now (start .entry)) && formed (now (goal .entry))) ≡ true → (i : ℕ) → i < 24
+        → bit r i ≡ stuck (bitsOf shape24 (now (start .entry)) (i / 8) (i % 8)) (bitsOf shape24 (now (goal .entry)) (i / 8) (i % 8))) ⌝ }
+{
+    if !is_formed(start) {
+        return 0;
+    }
+    if !is_formed(goal) {
+        return 0;
+    }
+    let a = port_stuck(start, goal, 0);
+    let b = port_stuck(start, goal, 1);
+    let c = port_stuck(start, goal, 2);
+    ports::join3(a, b, c)
 }

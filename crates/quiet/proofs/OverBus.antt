@@ -1,12 +1,11 @@
 -- The writes over the bus: sent as transactions to the device's address, from any bus state, a list does what its writes do. Assumes nothing.
 use mathlib.Core.Path.{_≡_, refl, sym, ap, _∙_}
-use mathlib.Core.Bool.{Bool, true, false, not}
+use mathlib.Core.Bool.{false, not}
 use mathlib.Core.List.{List, [], _∷_, _++_}
-use Prim.Native.Nat.{ℕ, zero, suc, _<_}
+use Prim.Native.Nat.{ℕ, zero, suc}
 use lib.ListN.{take}
 use Rattle.bits.proofs.Decide.{not-true}
 use Rattle.map.specs.Map.{part24, kindAt, reserved}
-use Rattle.registers.specs.Registers.{written}
 use Rattle.bus.specs.Device.{State}
 use Rattle.device.specs.Refusals.{stepped}
 use Rattle.demands.specs.Run.{Asked, after}

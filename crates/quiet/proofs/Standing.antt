@@ -1,5 +1,5 @@
 -- There is a device that stands at any well-formed start, so that what is said of every one says something. Assumes nothing.
-use mathlib.Core.Path.{_≡_, refl, sym, _∙_}
+use mathlib.Core.Path.{_≡_, refl, sym}
 use mathlib.Core.Bool.{true}
 use mathlib.Core.List.{List}
 use Prim.Native.Nat.{ℕ, _<_}
@@ -10,7 +10,7 @@ use Rattle.map.specs.Map.{part24, kindAt, entries, fitting, fileFits}
 use Rattle.registers.specs.Registers.{Core, core}
 use Rattle.quiet.specs.Settings.{Settings}
 use Rattle.quiet.specs.Quiet.{Formed, settingsOf}
-use Rattle.quiet.proofs.Quietly.{listOf, getsOf, listed}
+use Rattle.quiet.proofs.Quietly.{getsOf, listed}
 
 -- a file of zeros but for the ten registers
 abbrev file : (ℕ → ℕ) → List ℕ

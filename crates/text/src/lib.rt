@@ -37,7 +37,7 @@ pub fn is(s: &[u8], word: &[u8]) -> bool
 }
 
 // The number that a digit stands for, 16 where the byte is none.
-fn digit(b: u8) -> u64
+pub fn digit(b: u8) -> u64
     ensures { λ r. ⌜ r ≡ digitOf b ⌝ }
 {
     if b < 0x30 {
