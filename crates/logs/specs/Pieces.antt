@@ -59,6 +59,5 @@ pub record Gives (g : Given) (out : List ℕ) (at end : ℕ) (left : List ℕ) (
   pub small : r .len ≤ 33
 
 -- at the end of the log: a line that has begun counts
-abbrev pub lastText : Reading → (begun : List ℕ) → List ℕ
-lastText r [] = []
-lastText r (b ∷ begun) = ended r .text
+unfoldable pub lastText : Reading → List ℕ
+lastText r = cond (eqb (length (r .begun)) 0) [] (ended r .text)
