@@ -47,3 +47,11 @@ module _ {out middle left : List ℕ} {at end last : ℕ} (answer : Answer) (int
   pub line-refused : {n : ℕ} → answer ≡ Refused n → Wrote middle end (0x0a ∷ []) last left → Wrote out at (answerLine answer int low high) last left
   unfolding answerLine
   line-refused e rest = wrote-as (ap (λ (a : Answer). answerWord answer ++ lineEnd a (columns int low high)) (sym e)) (wrote-both word rest)
+
+pub line-short : (answer : Answer) (int : Bool) (low high : ℕ) → length (answerLine answer int low high) ≤ 20
+unfolding answerLine answerWord columns hexText
+line-short Nothing int low high = omega arith
+line-short Ack int low high = omega arith
+line-short Nak int low high = omega arith
+line-short (Byte b) int low high = omega arith
+line-short (Refused n) int low high = omega arith

@@ -5,11 +5,12 @@ use mathlib.Core.List.{List}
 use Prim.Native.Nat.{ℕ, _≤_}
 use native.Mathlib.Omega.{arith}
 use borrow.Author.Tests.{le-leb, lt-ltb}
+use lib.ListN.{length}
 use Rattle.map.specs.Map.{part24}
 use Rattle.registers.specs.Registers.{drivenLow, drivenHigh, intAsserted}
 use Rattle.bus.specs.Device.{State, Outcome, out}
 use Rattle.bus.specs.declared.Answer.{Answer}
-use Rattle.bus.specs.declared.Answer.the-variants.{Nothing}
+use Rattle.bus.specs.declared.Answer.the-variants.{Nothing, Refused}
 use Rattle.device.specs.Refusals.{stepped}
 use Rattle.device.specs.PowerOn.{stateIn, MadeOf}
 use Rattle.device.specs.declared.Device.{Device}
@@ -18,7 +19,9 @@ use Rattle.lines.specs.declared.Line.the-variants.{Event, Unreadable, Device as
 use Rattle.lines.specs.Lines.{lineOf}
 use Rattle.lines.proofs.Laws.{line-makes}
 use Rattle.answers.specs.Answers.{answerLine}
+use Rattle.answers.proofs.Laws.{line-short}
 use Rattle.tracing.specs.declared.Desk.{Desk}
+use Rattle.tracing.specs.Tracing.Session.{NoDevice, With}
 use Rattle.tracing.specs.Tracing.{Session, Traced, sessionOf, shownLine, told, unreadable, traced, Says}
 
 -- what is said may be said in another way
@@ -55,3 +58,16 @@ module _ (x : Session) (said : Line) (line : List ℕ) (read : said ≡ lineOf l
   pub unreadable-said : said ≡ Unreadable → unreadable x ≡ traced x (lineOf line)
   unfolding traced
   unreadable-said e = rw (← read, e)
+
+told-short : (o : Outcome) → length (shownLine o) ≤ 20
+unfolding shownLine
+told-short o =
+    line-short (o .answer) (intAsserted part24 (o .after .regs)) (drivenLow part24 (o .after .regs)) (drivenHigh part24 (o .after .regs))
+
+-- no answer is longer than this
+pub traced-short : (x : Session) (l : Line) → length (traced x l .line) ≤ 20
+unfolding traced answerLine
+traced-short x Unreadable = line-short (Refused 7) false 0 0
+traced-short x (MadeLine choice levels) = told-short (out Nothing (powerOn part24 choice levels))
+traced-short NoDevice (Event kind arg) = line-short (Refused 7) false 0 0
+traced-short (With s) (Event kind arg) = told-short (stepped part24 s kind arg)

@@ -1,0 +1,126 @@
+-- One line of a piece, and the line that has begun. Assumes nothing.
+use mathlib.Core.Path.{_≡_, refl, ap, sym, _∙_}
+use mathlib.Core.Bool.{Bool, true, false, cond}
+use mathlib.Core.List.{List, [], _∷_, _++_, append-assoc, append-nil}
+use Prim.Native.Nat.{ℕ, zero, suc, _+_, _-_, _<_, _≤_, min}
+use native.Mathlib.Numerals.{add-one}
+use native.Mathlib.Omega.{arith}
+use borrow.Author.Tests.{eq-eqb, ne-eqb, lt-ltb, le-ltb, ltb-true, ltb-false}
+use lib.Dec.{eqb, ltb}
+use lib.ListN.{length, take, drop, getD, length-append, length-take}
+use lib.Seq.{drop-cons, drop-length, take-all, take-at, take-append-add, take-append-le, length-take-le, sets-eq}
+use Rattle.text.specs.Text.{Wrote}
+use Rattle.text.proofs.Laws.{wrote-as}
+use Rattle.logs.specs.Pieces.{Reading, Given, grown, ended, andThen, given, newlineAt, takenOf, firstGiven}
+
+module _ (piece : List ℕ) (i : ℕ) (inside : i < length piece) where
+  pub newline-here : getD piece i 0 ≡ 0x0a → newlineAt (drop i piece) ≡ 0
+  unfolding newlineAt
+  newline-here h = rw (drop-cons piece i 0, eq-eqb (getD piece i 0) 0x0a h)
+
+  pub newline-later : (getD piece i 0 ≡ 0x0a → ⊥) → newlineAt (drop i piece) ≡ suc (newlineAt (drop (i + 1) piece))
+  unfolding newlineAt
+  newline-later h = rw (add-one i, drop-cons piece i 0, ne-eqb (getD piece i 0) 0x0a h)
+
+take-least : (n : ℕ) (s : List ℕ) → take (min n (length s)) s ≡ take n s
+take-least n s = go (ltb n (length s)) refl
+  where
+    go : (t : Bool) → ltb n (length s) ≡ t → take (min n (length s)) s ≡ take n s
+    go true e = let l : min n (length s) ≡ n = omega (arith, ltb-true n (length s) e) in ap (λ (k : ℕ). take k s) l
+    go false e =
+        let l : length s ≤ n = ltb-false n (length s) e in
+        take-all (min n (length s)) s (omega arith) ∙ sym (take-all n s l)
+
+-- 33 bytes of the line that has begun are kept
+module _ (held part : List ℕ) (len n : ℕ) (all : length held ≡ 33) (fits : len ≤ 33) (least : n ≡ min (33 - len) (length part)) where
+  part-length : length (take n part) ≡ n
+  part-length = length-take-le n part (omega arith)
+
+  -- the part that is copied, as the code names it
+  part-is : take (n - 0) part ≡ take n part
+  part-is = let e : n - 0 ≡ n = omega arith in ap (λ (k : ℕ). take k part) e
+
+  held-length : length (take len held) ≡ len
+  held-length = length-take-le len held (omega arith)
+
+  pub kept : {end : ℕ} {left : List ℕ} → Wrote held len (take (n - 0) part) end left → take end left ≡ take 33 (take len held ++ part)
+  kept {end} {left} v =
+      let w : Wrote held len (take n part) end left = wrote-as part-is v in
+      let e : length (take len held) + (33 - len) ≡ 33 = omega (arith, held-length) in
+      ap (take end) (w .holds ∙ sets-eq (take n part) held len (omega (arith, part-length)))
+      ∙ take-at (take len held ++ take n part) (drop (len + length (take n part)) held) end (length-append (take len held) (take n part) ∙ omega (arith, part-length, held-length, w .ends))
+      ∙ ap (λ (x : List ℕ). take len held ++ x) (ap (λ (k : ℕ). take k part) least ∙ take-least (33 - len) part)
+      ∙ sym (take-append-add (take len held) part (33 - len))
+      ∙ ap (λ (k : ℕ). take k (take len held ++ part)) e
+
+  pub kept-small : {end : ℕ} {left : List ℕ} → Wrote held len (take (n - 0) part) end left → end ≤ 33
+  kept-small v = omega (arith, part-length, wrote-as part-is v .ends)
+
+  pub kept-room : len + length (take (n - 0) part) ≤ length held
+  kept-room = rw part-is (omega (arith, part-length))
+
+-- a beginning of a beginning, with more after it
+take-again : (n : ℕ) (s t : List ℕ) → take n (take n s ++ t) ≡ take n (s ++ t)
+take-again zero s t = refl
+take-again (suc n) [] t = refl
+take-again (suc n) (b ∷ s) t = ap (λ (x : List ℕ). b ∷ x) (take-again n s t)
+
+grown-twice : (r : Reading) (s t : List ℕ) → grown (grown r s) t ≡ grown r (s ++ t)
+grown-twice r s t =
+    ap (λ (x : List ℕ). record { session = r .session; begun = x }) (take-again 33 (r .begun ++ s) t ∙ ap (take 33) (append-assoc (r .begun) s t))
+
+grown-small : (r : Reading) (s : List ℕ) → length (grown r s .begun) ≤ 33
+grown-small r s = omega (arith, length-take 33 (r .begun ++ s))
+
+grown-nothing : (r : Reading) → length (r .begun) ≤ 33 → grown r [] ≡ r
+grown-nothing r h = ap (λ (x : List ℕ). record { session = r .session; begun = x }) (ap (take 33) (append-nil (r .begun)) ∙ take-all 33 (r .begun) h)
+
+-- a piece with no newline
+given-none : (r : Reading) (piece : List ℕ) → length (r .begun) ≤ 33 → length piece ≤ newlineAt piece → given r piece ≡ record { text = []; after = grown r piece }
+unfolding given newlineAt
+given-none r [] small h = ap (λ (x : Reading). record { text = []; after = x }) (sym (grown-nothing r small))
+given-none r (b ∷ piece) small h = go (eqb b 0x0a) h (given-none (grown r (b ∷ [])) piece (grown-small r (b ∷ [])))
+  where
+    go : (t : Bool) → suc (length piece) ≤ cond t 0 (suc (newlineAt piece))
+        → (length piece ≤ newlineAt piece → given (grown r (b ∷ [])) piece ≡ record { text = []; after = grown (grown r (b ∷ [])) piece })
+        → cond t (andThen (ended r .text) (given (ended r .after) piece)) (given (grown r (b ∷ [])) piece) ≡ record { text = []; after = grown r (b ∷ piece) }
+    go true l later = absurd (omega arith)
+    go false l later = later (omega arith) ∙ ap (λ (x : Reading). record { text = []; after = x }) (grown-twice r (b ∷ []) piece)
+
+-- a line is answered, and the rest read
+abbrev lineThen : Reading → List ℕ → Given
+lineThen r rest = andThen (ended r .text) (given (ended r .after) rest)
+
+-- a piece with a newline
+given-line : (r : Reading) (piece : List ℕ) → length (r .begun) ≤ 33 → newlineAt piece < length piece
+    → given r piece ≡ lineThen (grown r (take (newlineAt piece) piece)) (drop (newlineAt piece + 1) piece)
+unfolding given newlineAt
+given-line r [] small h = absurd (omega arith)
+given-line r (b ∷ piece) small h = go (eqb b 0x0a) h (given-line (grown r (b ∷ [])) piece (grown-small r (b ∷ [])))
+  where
+    go : (t : Bool) → cond t 0 (suc (newlineAt piece)) < suc (length piece)
+        → (newlineAt piece < length piece → given (grown r (b ∷ [])) piece ≡ lineThen (grown (grown r (b ∷ [])) (take (newlineAt piece) piece)) (drop (newlineAt piece + 1) piece))
+        → cond t (lineThen r piece) (given (grown r (b ∷ [])) piece)
+        ≡ lineThen (grown r (take (cond t 0 (suc (newlineAt piece))) (b ∷ piece))) (drop (cond t 0 (suc (newlineAt piece)) + 1) (b ∷ piece))
+    go true l later = ap (λ (x : Reading). lineThen x piece) (sym (grown-nothing r small))
+    go false l later =
+        let e : suc (newlineAt piece) + 1 ≡ suc (newlineAt piece + 1) = omega arith in
+        later (omega arith)
+        ∙ ap (λ (x : Reading). lineThen x (drop (newlineAt piece + 1) piece)) (grown-twice r (b ∷ []) (take (newlineAt piece) piece))
+        ∙ ap (λ (k : ℕ). lineThen (grown r (b ∷ take (newlineAt piece) piece)) (drop k (b ∷ piece))) (sym e)
+
+-- the first line of a piece, or all of it, and then the rest
+pub given-first : (r : Reading) (piece : List ℕ) → length (r .begun) ≤ 33
+    → given r piece ≡ andThen (firstGiven r piece .text) (given (firstGiven r piece .after) (drop (takenOf piece) piece))
+unfolding firstGiven takenOf given
+given-first r piece small = go (ltb (newlineAt piece) (length piece)) refl
+  where
+    first : Bool → Given
+    first t = cond t (ended (grown r (take (newlineAt piece) piece))) (record { text = []; after = grown r piece })
+
+    go : (t : Bool) → ltb (newlineAt piece) (length piece) ≡ t
+        → given r piece ≡ andThen (first t .text) (given (first t .after) (drop (cond t (newlineAt piece + 1) (length piece)) piece))
+    go true e = given-line r piece small (ltb-true (newlineAt piece) (length piece) e)
+    go false e =
+        given-none r piece small (ltb-false (newlineAt piece) (length piece) e)
+        ∙ ap (λ (x : List ℕ). given (grown r piece) x) (sym (drop-length piece))

@@ -1,0 +1,59 @@
+use native.Mathlib.Omega.{arith}
+use borrow.Author.Needs.{needs}
+use lib.ListN.{length}
+use Rattle.logs.proofs.Feeding.{Onward, onward-start, onward-line, onward-done, taken-some, taken-less}
+use Rattle.logs.proofs.feed.Statement.{statement}
+use Rattle.logs.proofs.feed.Tie as tie
+
+abbrev Inv-loop : tie.InvT-loop
+Inv-loop piece out₀ at rest₀ r₀ end₀ out rest r end = Onward r₀ piece out₀ at out rest r end
+
+abbrev μ-loop : tie.MeasureT-loop
+μ-loop piece out₀ at rest₀ r₀ end₀ out rest r end = length rest
+
+loop-holds : tie.Need-loop-holds Inv-loop μ-loop
+loop-holds c = onward-start (c .before .before .pre)
+
+first-line-requires : tie.Need-first-line-requires Inv-loop μ-loop
+first-line-requires c κs = search needs
+
+sub-rest : tie.Need-sub-rest Inv-loop μ-loop
+sub-rest c =
+    let f = c .before .before .before in
+    omega (arith, f .first-line .ensures .1, taken-some (f .before .before .before .loop .rest .now) (f .before .before .loop-test .taken))
+
+part-rest-start : tie.Need-part-rest-start Inv-loop μ-loop
+part-rest-start c =
+    let f = c .before .before .before in
+    omega (arith, f .first-line .ensures .1, taken-some (f .before .before .before .loop .rest .now) (f .before .before .loop-test .taken))
+
+part-rest-end : tie.Need-part-rest-end Inv-loop μ-loop
+part-rest-end c = search needs
+
+loop-less : tie.Need-loop-less Inv-loop μ-loop
+loop-less c = let f = c .before .before .before .before in taken-less _ _ (f .before .before .loop-test .taken) (f .first-line .ensures .1)
+
+loop-again : tie.Need-loop-again Inv-loop μ-loop
+loop-again c = let f = c .before .before .before .before in onward-line (f .before .before .before .loop .inv) (f .before .before .loop-test .taken) (f .first-line .ensures .0) (f .first-line .ensures .1)
+
+same-length : tie.Need-same-length Inv-loop μ-loop
+same-length c = search needs
+
+returns : tie.Need-returns Inv-loop μ-loop
+returns c = let here = c .before .loop .inv in (onward-done here (c .loop-test .left), omega (arith, here .room))
+
+pub feed-spec : {M : Type 1} → statement M
+feed-spec =
+    tie.close
+    (tie.spec
+    Inv-loop
+    μ-loop
+    loop-holds
+    first-line-requires
+    sub-rest
+    part-rest-start
+    part-rest-end
+    loop-less
+    loop-again
+    same-length
+    returns)

@@ -1,0 +1,62 @@
+use native.Mathlib.Omega.{arith}
+use borrow.Author.Needs.{needs}
+use mathlib.Core.Path.{_≡_, refl}
+use Prim.Native.Nat.{_+_, _-_, _≤_}
+use lib.ListN.{length, drop}
+use lib.Seq.{drop-length}
+use Rattle.logs.specs.Pieces.{newlineAt}
+use Rattle.logs.proofs.Laws.{newline-here, newline-later}
+use Rattle.logs.proofs.newline_at.Statement.{statement}
+use Rattle.logs.proofs.newline_at.Tie as tie
+
+abbrev Inv-loop : tie.InvT-loop
+Inv-loop piece i₀ i = (i ≤ length piece) × (newlineAt piece ≡ i + newlineAt (drop i piece))
+
+abbrev μ-loop : tie.MeasureT-loop
+μ-loop piece i₀ i = length piece - i
+
+loop-holds : tie.Need-loop-holds Inv-loop μ-loop
+loop-holds c = search needs
+
+shared-slice-read-if1 : tie.Need-shared-slice-read-if1 Inv-loop μ-loop
+shared-slice-read-if1 c = search needs
+
+returns : tie.Need-returns Inv-loop μ-loop
+returns c =
+    let l = c .before .before .before in
+    let h = newline-here (l .before .args .piece .now) (l .loop .i) (search needs) (c .if1 .taken) in
+    (omega (arith, l .loop .inv .1, h), search needs)
+
+add-i : tie.Need-add-i Inv-loop μ-loop
+add-i c = search needs
+
+loop-less : tie.Need-loop-less Inv-loop μ-loop
+loop-less c = search needs
+
+loop-again : tie.Need-loop-again Inv-loop μ-loop
+loop-again c =
+    let l = c .before .before .before in
+    let h = newline-later (l .before .args .piece .now) (l .loop .i) (search needs) (c .if1 .left) in
+    (search needs, omega (arith, l .loop .inv .1, h))
+
+returns-2 : tie.Need-returns-2 Inv-loop μ-loop
+unfolding newlineAt
+returns-2 c =
+    let l = c .before in
+    let e : l .loop .i ≡ length (l .before .args .piece .now) = omega arith in
+    let h : newlineAt (drop (l .loop .i) (l .before .args .piece .now)) ≡ 0 = rw (e, drop-length) refl in
+    (omega (arith, l .loop .inv .1, h), search needs)
+
+pub newline-at-spec : {M : Type 1} → statement M
+newline-at-spec =
+    tie.close
+    (tie.spec
+    Inv-loop
+    μ-loop
+    loop-holds
+    shared-slice-read-if1
+    returns
+    add-i
+    loop-less
+    loop-again
+    returns-2)

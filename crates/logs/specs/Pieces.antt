@@ -1,0 +1,63 @@
+-- A log in pieces: what a piece gives, and what is carried to the next.
+use mathlib.Core.Path.{_≡_}
+use mathlib.Core.Bool.{cond}
+use mathlib.Core.List.{List, [], _∷_, _++_}
+use Prim.Native.Nat.{ℕ, suc, _+_, _≤_}
+use lib.Dec.{eqb, ltb}
+use lib.ListN.{length, take, drop}
+use Rattle.text.specs.Text.{Wrote}
+use Rattle.lines.specs.Lines.{lineOf}
+use Rattle.tracing.specs.Tracing.{Session, traced, sessionOf}
+use Rattle.logs.specs.declared.Reader.{Reader}
+
+-- what there is, and the line that has begun, of which 33 bytes are kept: it is too long whatever follows
+pub record Reading : Type 0 where
+  pub session : Session
+  pub begun : List ℕ
+
+abbrev pub readingOf : Reader → Reading
+readingOf r = record { session = sessionOf (r .desk); begun = take (r .len) (r .held) }
+
+abbrev pub grown : Reading → List ℕ → Reading
+grown r more = record { session = r .session; begun = take 33 (r .begun ++ more) }
+
+-- answers, and where the reading stands after them
+pub record Given : Type 0 where
+  pub text : List ℕ
+  pub after : Reading
+
+-- the line that has begun is answered, and the next begins
+abbrev pub ended : Reading → Given
+ended r = record { text = traced (r .session) (lineOf (r .begun)) .line; after = record { session = traced (r .session) (lineOf (r .begun)) .after; begun = [] } }
+
+abbrev pub andThen : List ℕ → Given → Given
+andThen text g = record { text = text ++ g .text; after = g .after }
+
+-- what a piece gives, byte by byte
+unfoldable pub given : Reading → (piece : List ℕ) → Given
+given r [] = record { text = []; after = r }
+given r (b ∷ piece) = cond (eqb b 0x0a) (andThen (ended r .text) (given (ended r .after) piece)) (given (grown r (b ∷ [])) piece)
+
+-- the same by lines: where the first newline stands, or the length
+unfoldable pub newlineAt : List ℕ → ℕ
+newlineAt [] = 0
+newlineAt (b ∷ piece) = cond (eqb b 0x0a) 0 (suc (newlineAt piece))
+
+-- how much of a piece its first line takes, with its newline
+unfoldable pub takenOf : List ℕ → ℕ
+takenOf piece = cond (ltb (newlineAt piece) (length piece)) (newlineAt piece + 1) (length piece)
+
+-- what the first line of a piece gives, or all of a piece with no newline
+unfoldable pub firstGiven : Reading → (piece : List ℕ) → Given
+firstGiven r piece =
+    cond (ltb (newlineAt piece) (length piece)) (ended (grown r (take (newlineAt piece) piece))) (record { text = []; after = grown r piece })
+
+-- the answers written from at on, and the reader after
+pub record Gives (g : Given) (out : List ℕ) (at end : ℕ) (left : List ℕ) (r : Reader) : Type 0 where
+  pub wrote : Wrote out at (g .text) end left
+  pub goes-on : readingOf r ≡ g .after
+  pub small : r .len ≤ 33
+
+-- at the end of the log: a line that has begun counts
+unfoldable pub lastText : Reading → List ℕ
+lastText r = cond (eqb (length (r .begun)) 0) [] (ended r .text)

@@ -1,0 +1,26 @@
+// The trace program: a log of events on standard input, an answer for each line on standard output.
+use libc::STDOUT_FILENO;
+
+// A piece of the log. The answers' room is 20 bytes for each byte of a piece, and 6 more.
+fn main() {
+    let mut piece = [0u8; 16384];
+    let mut out = [0u8; 327_686];
+    let mut reader = logs::start();
+    io::write_all(STDOUT_FILENO, b"answer\tint\tlow\thigh\n");
+    let mut turns = u64::MAX;
+    while 0 < turns {
+        turns = turns - 1;
+        let got = libc::read(0, &mut piece);
+        let n = io::count(got, &piece);
+        if n == 0 {
+            let end = logs::finish(reader, &mut out, 0);
+            io::write_all(STDOUT_FILENO, &out[0..end]);
+            return;
+        }
+        let fed = logs::feed(reader, &piece[0..n], &mut out, 0);
+        let next = fed.reader;
+        let end = fed.end;
+        reader = next;
+        io::write_all(STDOUT_FILENO, &out[0..end]);
+    }
+}
