@@ -1,6 +1,6 @@
 -- Deciders: what can be tried at every value is proved by computing the trial. Assumes nothing.
 use mathlib.Core.Path.{_≡_, refl, ap, sym, _∙_}
-use mathlib.Core.Bool.{Bool, true, false, not, _&&_, Bool·beq}
+use mathlib.Core.Bool.{Bool, true, false, _&&_, Bool·beq}
 use Prim.Native.Nat.{ℕ, zero, suc, _+_, _<_}
 use native.Mathlib.Omega.{arith}
 use lib.Dec.{T, eqb, eqb→eq}
@@ -27,14 +27,6 @@ and-left false b e = e
 pub and-right : (a b : Bool) → (a && b) ≡ true → b ≡ true
 and-right true b e = e
 and-right false b e = clash false e refl
-
-pub not-true : (a : Bool) → not a ≡ true → a ≡ false
-not-true true e = clash false e refl
-not-true false e = refl
-
-pub not-false : (a : Bool) → not a ≡ false → a ≡ true
-not-false true e = refl
-not-false false e = clash true refl e
 
 -- functions of n Bools, to any type whose equality is computed
 abbrev pub Fn : Type 0 → ℕ → Type 0

@@ -3,10 +3,10 @@ use mathlib.Core.Path.{_≡_, refl}
 use mathlib.Core.Bool.{Bool, true, false, not, _&&_, _||_}
 use Prim.Native.Nat.{ℕ, zero, suc, _^_, _<_}
 use native.Mathlib.Omega.{arith}
-use borrow.Author.Tests.{lt-ltb, le-ltb, lt-leb, ltb-true}
+use borrow.Author.Tests.{lt-ltb, le-ltb, lt-leb, ltb-true, not-true}
 use lib.Bits.{bitOr}
 use lib.Dec.{eqb, ltb}
-use Rattle.bits.proofs.Decide.{clash, and-left, and-right, not-true, taut}
+use Rattle.bits.proofs.Decide.{clash, and-left, and-right, taut}
 use Rattle.bits.proofs.Laws.{or-fits}
 use Rattle.pins.specs.AllPins.{Within}
 use Rattle.pins.specs.declared.Sets.{Sets}

@@ -1,8 +1,9 @@
 -- A status bit that shows 1 goes to 0 only by a listed cause, for one pin in whatever state. Assumes nothing.
 use mathlib.Core.Path.{_≡_, refl}
 use mathlib.Core.Bool.{Bool, true, false, not, _&&_, _||_}
+use borrow.Author.Tests.{not-true}
 use Rattle.bits.specs.Bits.{differs}
-use Rattle.bits.proofs.Decide.{clash, and-left, and-right, not-true, taut}
+use Rattle.bits.proofs.Decide.{clash, and-left, and-right, taut}
 use Rattle.pins.specs.Pin.{source, pin, pending, status, settle, matches, levelTo, clearWritten, maskWritten, latchWritten, configurationWritten}
 use Rattle.pins.specs.OnePin.{OnePin, Happening, registersAfter, pinAfter, after, statusOf}
 use Rattle.pins.specs.OnePin.Happening.{LevelTo, InputFetched, ClearWritten, MaskWritten, EdgeWritten, LatchWritten, ConfigurationWritten, OutputWritten, PolarityWritten, PortKindWritten, PinKindWritten, StoredWritten, Reset, Elsewhere}

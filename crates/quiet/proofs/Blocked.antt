@@ -1,6 +1,6 @@
 -- No list of writes serves where a pin is blocked. Assumes nothing.
 use mathlib.Core.Path.{_≡_, refl, sym, ap, _∙_}
-use mathlib.Core.Bool.{Bool, true, false, _&&_, _||_, cond}
+use mathlib.Core.Bool.{Bool, true, false, _&&_, _||_}
 use mathlib.Core.List.{List, [], _∷_}
 use mathlib.Core.Logic.{_⊎_, inl, inr, ⊎-elim}
 use Prim.Native.Nat.{ℕ, zero, suc, _+_, _*_, _<_}
@@ -8,6 +8,7 @@ use native.Mathlib.Omega.{arith}
 use borrow.Author.Tests.{eqb-true, eqb-false, not-true}
 use lib.Dec.{eqb}
 use lib.Seq.{getD-set-other}
+use Rattle.bits.proofs.Decide.{and-left, and-right, clash as never}
 use Rattle.bits.specs.Bits.{bit, some, differs}
 use Rattle.pins.specs.Pin.{Drive, drive, isHigh, openDrain}
 use Rattle.pins.specs.Pin.Drive.{Low, High, Released}
@@ -16,11 +17,10 @@ use Rattle.quiet.specs.Order.{stuck, blocked}
 
 -- ---- Bools
 pub both : (a b : Bool) → (a && b) ≡ true → (a ≡ true) × (b ≡ true)
-both true b e = (refl, e)
-both false b e = absurd (let z : _≡_ {A = ℕ} 0 1 = ap (λ (x : Bool). cond x 1 0) e in omega arith)
+both a b e = (and-left a b e, and-right a b e)
 
 pub clash : {b : Bool} → b ≡ true → b ≡ false → ⊥
-clash t f = let z : _≡_ {A = ℕ} 0 1 = ap (λ (x : Bool). cond x 1 0) (sym f ∙ t) in omega arith
+clash t f = never _ t f
 
 pub some-true : (w : ℕ) (f : ℕ → Bool) → some w f ≡ true → (i : ℕ) × (i < w) × (f i ≡ true)
 unfolding some

@@ -4,7 +4,7 @@ use mathlib.Core.Bool.{false, not}
 use mathlib.Core.List.{List, [], _∷_, _++_}
 use Prim.Native.Nat.{ℕ, zero, suc}
 use lib.ListN.{take}
-use Rattle.bits.proofs.Decide.{not-true}
+use borrow.Author.Tests.{not-true}
 use Rattle.map.specs.Map.{part24, kindAt, reserved}
 use Rattle.bus.specs.Device.{State}
 use Rattle.device.specs.Refusals.{stepped}

@@ -1,7 +1,6 @@
 use borrow.Author.Needs.{needs}
 use mathlib.Core.Path.{sym, _∙_}
-use borrow.Author.Tests.{lt-ltb, le-ltb}
-use Rattle.bits.proofs.Decide.{not-true, not-false}
+use borrow.Author.Tests.{lt-ltb, le-ltb, not-true, not-false}
 use Rattle.device.specs.Refusals.{imageFits}
 use Rattle.device.proofs.image_fits.Statement.{statement}
 use Rattle.device.proofs.image_fits.Tie as tie

@@ -1,6 +1,6 @@
 use borrow.Author.Needs.{needs}
 use mathlib.Core.Path.{sym, _∙_}
-use Rattle.bits.proofs.Decide.{not-true, not-false}
+use borrow.Author.Tests.{not-true, not-false}
 use Rattle.bus.specs.Held.{stateOf}
 use Rattle.device.proofs.Images.{broken}
 use Rattle.device.proofs.step.Statement.{statement}
