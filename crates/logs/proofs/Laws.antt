@@ -60,7 +60,7 @@ module _ (held part : List ℕ) (len n : ℕ) (all : length held ≡ 33) (fits :
   kept-room = rw part-is (omega (arith, part-length))
 
 -- a beginning of a beginning, with more after it
-take-again : (n : ℕ) (s t : List ℕ) → take n (take n s ++ t) ≡ take n (s ++ t)
+pub take-again : (n : ℕ) (s t : List ℕ) → take n (take n s ++ t) ≡ take n (s ++ t)
 take-again zero s t = refl
 take-again (suc n) [] t = refl
 take-again (suc n) (b ∷ s) t = ap (λ (x : List ℕ). b ∷ x) (take-again n s t)

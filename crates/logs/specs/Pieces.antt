@@ -8,12 +8,18 @@ use lib.ListN.{length, take, drop}
 use Rattle.text.specs.Text.{Wrote}
 use Rattle.lines.specs.Lines.{lineOf}
 use Rattle.tracing.specs.Tracing.{Session, traced, sessionOf}
+use Rattle.tracing.specs.Tracing.Session.{NoDevice}
 use Rattle.logs.specs.declared.Reader.{Reader}
+use Rattle.logs.specs.Logs.{header}
 
 -- what there is, and the line that has begun, of which 33 bytes are kept: it is too long whatever follows
 pub record Reading : Type 0 where
   pub session : Session
   pub begun : List ℕ
+
+-- before the log: no device yet, and no line
+abbrev pub opened : Reading
+opened = record { session = NoDevice; begun = [] }
 
 abbrev pub readingOf : Reader → Reading
 readingOf r = record { session = sessionOf (r .desk); begun = take (r .len) (r .held) }
@@ -61,3 +67,16 @@ pub record Gives (g : Given) (out : List ℕ) (at end : ℕ) (left : List ℕ) (
 -- at the end of the log: a line that has begun counts
 unfoldable pub lastText : Reading → List ℕ
 lastText r = cond (eqb (length (r .begun)) 0) [] (ended r .text)
+
+-- ---- a log that arrives in any pieces
+unfoldable pub joined : (pieces : List (List ℕ)) → List ℕ
+joined [] = []
+joined (piece ∷ pieces) = piece ++ joined pieces
+
+unfoldable pub givenAll : Reading → (pieces : List (List ℕ)) → Given
+givenAll r [] = record { text = []; after = r }
+givenAll r (piece ∷ pieces) = andThen (given r piece .text) (givenAll (given r piece .after) pieces)
+
+-- what is written: the header, the answers of each piece, and at the end a last line's
+unfoldable pub written : (pieces : List (List ℕ)) → List ℕ
+written pieces = header ++ (givenAll opened pieces .text ++ lastText (givenAll opened pieces .after))

@@ -1,11 +1,10 @@
 // A whole log in pieces of any size, in bounded memory.
 ghost use mathlib.Core.Path.{_≡_};
-ghost use mathlib.Core.List.{[]};
 ghost use Prim.Native.Nat.{_+_, _*_, _<_, _≤_, min};
 ghost use lib.ListN.{length, take};
 ghost use Rattle.text.specs.Text.{Wrote};
-ghost use Rattle.tracing.specs.Tracing.Session.{NoDevice};
-ghost use Rattle.logs.specs.Pieces.{readingOf, grown, given, newlineAt, takenOf, firstGiven, Gives, lastText};
+ghost use Rattle.logs.specs.Logs.{header};
+ghost use Rattle.logs.specs.Pieces.{readingOf, opened, grown, given, newlineAt, takenOf, firstGiven, Gives, lastText};
 use device::Device;
 use tracing::Desk;
 
@@ -122,7 +121,7 @@ pub fn feed(reader: Reader, piece: &[u8], out: &mut [u8], at: usize) -> Fed
 
 // No device yet, and no line.
 pub fn start() -> Reader
-    ensures { λ r. ⌜ (readingOf r ≡ record { session = NoDevice; begun = [] }) × (r .len ≤ 33) ⌝ }
+    ensures { λ r. ⌜ (readingOf r ≡ opened) × (r .len ≤ 33) ⌝ }
 {
     let made = Device::power_on(0, 0);
     let device = made.device;
@@ -132,6 +131,14 @@ pub fn start() -> Reader
         held: [0; 33],
         len: 0,
     }
+}
+
+// Puts the header into out from at on, and says where it ends.
+pub fn put_header(out: &mut [u8], at: usize) -> usize
+    requires { ⌜ at + 20 ≤ length (now out) ⌝ }
+    ensures { λ end. ⌜ Wrote (now (out .entry)) at header end (now (out .exit)) × (end ≤ length (now (out .exit))) ⌝ }
+{
+    text::put(out, at, b"answer\tint\tlow\thigh\n")
 }
 
 // The end of the log: a last line without newline is answered if it holds a byte. Says where the answer ends.

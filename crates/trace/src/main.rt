@@ -1,12 +1,18 @@
 // The trace program: a log of events on standard input, an answer for each line on standard output.
 use libc::STDOUT_FILENO;
 
-// A piece of the log. The answers' room is 20 bytes for each byte of a piece, and 6 more.
+fn write_header() {
+    let mut out = [0u8; 20];
+    let end = logs::put_header(&mut out, 0);
+    io::write_all(STDOUT_FILENO, &out[0..end]);
+}
+
+// The answers' room is 20 bytes for each byte of a piece, and 6 more.
 fn main() {
     let mut piece = [0u8; 16384];
     let mut out = [0u8; 327_686];
     let mut reader = logs::start();
-    io::write_all(STDOUT_FILENO, b"answer\tint\tlow\thigh\n");
+    write_header();
     let mut turns = u64::MAX;
     while 0 < turns {
         turns = turns - 1;

@@ -14,14 +14,11 @@ abbrev μ-loop : tie.MeasureT-loop
 start-requires : tie.Need-start-requires Inv-loop μ-loop
 start-requires c κs = search needs
 
-slice-aggregate-write-all : tie.Need-slice-aggregate-write-all Inv-loop μ-loop
-slice-aggregate-write-all c = search needs
-
-write-all-requires : tie.Need-write-all-requires Inv-loop μ-loop
-write-all-requires c κs = search needs
+write-header-requires : tie.Need-write-header-requires Inv-loop μ-loop
+write-header-requires c κs = search needs
 
 loop-holds : tie.Need-loop-holds Inv-loop μ-loop
-loop-holds c = (length-replicate {A = ℕ} 16384 0, length-replicate {A = ℕ} 327686 0, c .before .before .start .ensures .1)
+loop-holds c = (length-replicate {A = ℕ} 16384 0, length-replicate {A = ℕ} 327686 0, c .before .start .ensures .1)
 
 sub-turns : tie.Need-sub-turns Inv-loop μ-loop
 sub-turns c = search needs
@@ -53,8 +50,8 @@ part-write-all-start c = search needs
 part-write-all-end : tie.Need-part-write-all-end Inv-loop μ-loop
 part-write-all-end c = search needs
 
-write-all-requires-2 : tie.Need-write-all-requires-2 Inv-loop μ-loop
-write-all-requires-2 c κs = search needs
+write-all-requires : tie.Need-write-all-requires Inv-loop μ-loop
+write-all-requires c κs = search needs
 
 returns : tie.Need-returns Inv-loop μ-loop
 returns c = search needs
@@ -83,8 +80,8 @@ part-write-all-start-2 c = search needs
 part-write-all-end-2 : tie.Need-part-write-all-end-2 Inv-loop μ-loop
 part-write-all-end-2 c = search needs
 
-write-all-requires-3 : tie.Need-write-all-requires-3 Inv-loop μ-loop
-write-all-requires-3 c κs = search needs
+write-all-requires-2 : tie.Need-write-all-requires-2 Inv-loop μ-loop
+write-all-requires-2 c κs = search needs
 
 loop-less : tie.Need-loop-less Inv-loop μ-loop
 loop-less c = search needs
@@ -102,8 +99,7 @@ main-spec =
     Inv-loop
     μ-loop
     start-requires
-    slice-aggregate-write-all
-    write-all-requires
+    write-header-requires
     loop-holds
     sub-turns
     slice-aggregate-read
@@ -115,7 +111,7 @@ main-spec =
     sub-write-all
     part-write-all-start
     part-write-all-end
-    write-all-requires-2
+    write-all-requires
     returns
     sub-feed
     part-feed-start
@@ -125,7 +121,7 @@ main-spec =
     sub-write-all-2
     part-write-all-start-2
     part-write-all-end-2
-    write-all-requires-3
+    write-all-requires-2
     loop-less
     loop-again
     returns-2)

@@ -1,0 +1,37 @@
+#!/usr/bin/env bash
+# The program trace: the shipped examples, and seeded logs against the independent model (SEED and LOGS on request: LOGS=20000 SEED=7 tests/trace.sh).
+# The model itself: its own tests, and that the corpus tells each of its one-rule mutants from it.
+set -u
+cd "$(dirname "${BASH_SOURCE[0]}")/.." || exit 2
+bad=0
+fail() {
+    echo "trace: $*"
+    bad=1
+}
+
+for log in examples/*.trace; do
+    ./ghixramel trace <"$log" | cmp -s - "${log%.trace}.answers" || fail "$log: other answers"
+done
+
+# a host that talks through a pipe has each answer before it sends the next line
+coproc ./ghixramel trace
+ask() { # LINE, then the answer must come
+    printf '%s\n' "$1" >&"${COPROC[1]}"
+    IFS= read -r -t 20 told <&"${COPROC[0]}" || fail "no answer to '$1'"
+}
+IFS= read -r -t 20 told <&"${COPROC[0]}" || fail "no header"
+ask $'device\t2\t000000'
+ask 'start'
+ask $'byte\t44'
+[ "$told" = $'ack\t1\t000000\t000000' ] || fail "the address byte got '$told'"
+eval "exec ${COPROC[1]}>&-"
+wait "$COPROC_PID" 2>/dev/null
+
+# a line of ten million bytes is one refusal
+lines=$(head -c 10000000 /dev/zero | tr '\0' 'x' | ./ghixramel trace | wc -l)
+[ "$lines" -eq 2 ] || fail "a long line gave $lines lines, wanted the header and one refusal"
+
+python3 tests/model/compare.py trace ./ghixramel trace --seed "${SEED:-1}" --count "${LOGS:-1000}" || bad=1
+python3 tests/model/selftest.py || bad=1
+python3 tests/model/mutants.py "${SEED:-1}" || bad=1
+exit $bad
