@@ -13,6 +13,8 @@ for log in examples/*.trace; do
     ./ghixramel trace <"$log" | cmp -s - "${log%.trace}.answers" || fail "$log: other answers"
 done
 
+[ "$(./ghixramel trace </dev/null)" = $'answer\tint\tlow\thigh' ] || fail "an empty log does not give the header alone"
+
 # a host that talks through a pipe has each answer before it sends the next line
 coproc ./ghixramel trace
 ask() { # LINE, then the answer must come

@@ -14,7 +14,7 @@ use Rattle.text.specs.declared.Digits.the-variants.{Number, None}
 use Rattle.text.proofs.Laws.{starts-short}
 use Rattle.text.specs.Text.{startsWith, isWord, fieldOf, numberOf, upTo}
 use Rattle.lines.specs.declared.Line.{Line}
-use Rattle.lines.specs.declared.Line.the-variants.{Device, Event, Unreadable}
+use Rattle.lines.specs.declared.Line.the-variants.{Event, Unreadable}
 use Rattle.lines.specs.Lines.{lineOf, fieldsOf, deviceOf, eventWith, deviceWith, start, stop, reset, byte, fetch, pins, device, tab, Small, Makes}
 
 no-digits : (most : ℕ) → Small most None

@@ -1,7 +1,7 @@
 -- What the code gives for the first line of a piece, for a whole piece and at the end. Assumes nothing.
 use mathlib.Core.Path.{_≡_, refl, ap, sym, _∙_}
 use mathlib.Core.Bool.{Bool, true, false, cond}
-use mathlib.Core.List.{List, [], _∷_, _++_, append-nil}
+use mathlib.Core.List.{List, [], _∷_}
 use Prim.Native.Nat.{ℕ, _+_, _-_, _*_, _<_, _≤_}
 use native.Mathlib.Omega.{arith}
 use borrow.Author.Tests.{eq-eqb, ne-eqb, lt-ltb, le-ltb, ltb-true}
@@ -10,7 +10,6 @@ use lib.ListN.{length, take, drop, length-take, length-drop}
 use lib.Seq.{take-all}
 use Rattle.text.specs.Text.{Wrote}
 use Rattle.text.proofs.Laws.{wrote-as, wrote-both, wrote-length}
-use Rattle.lines.specs.declared.Line.{Line}
 use Rattle.lines.specs.Lines.{lineOf}
 use Rattle.lines.proofs.Laws.{rest as tail}
 use Rattle.tracing.specs.Tracing.{Session, Traced, traced, sessionOf, Says}

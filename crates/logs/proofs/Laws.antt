@@ -5,10 +5,10 @@ use mathlib.Core.List.{List, [], _∷_, _++_, append-assoc, append-nil}
 use Prim.Native.Nat.{ℕ, zero, suc, _+_, _-_, _<_, _≤_, min}
 use native.Mathlib.Numerals.{add-one}
 use native.Mathlib.Omega.{arith}
-use borrow.Author.Tests.{eq-eqb, ne-eqb, lt-ltb, le-ltb, ltb-true, ltb-false}
+use borrow.Author.Tests.{eq-eqb, ne-eqb, ltb-true, ltb-false}
 use lib.Dec.{eqb, ltb}
 use lib.ListN.{length, take, drop, getD, length-append, length-take}
-use lib.Seq.{drop-cons, drop-length, take-all, take-at, take-append-add, take-append-le, length-take-le, sets-eq}
+use lib.Seq.{drop-cons, drop-length, take-all, take-at, take-append-add, length-take-le, sets-eq}
 use Rattle.text.specs.Text.{Wrote}
 use Rattle.text.proofs.Laws.{wrote-as}
 use Rattle.logs.specs.Pieces.{Reading, Given, grown, ended, andThen, given, newlineAt, takenOf, firstGiven}

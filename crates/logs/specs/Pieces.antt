@@ -4,7 +4,7 @@ use mathlib.Core.Bool.{cond}
 use mathlib.Core.List.{List, [], _∷_, _++_}
 use Prim.Native.Nat.{ℕ, suc, _+_, _≤_}
 use lib.Dec.{eqb, ltb}
-use lib.ListN.{length, take, drop}
+use lib.ListN.{length, take}
 use Rattle.text.specs.Text.{Wrote}
 use Rattle.lines.specs.Lines.{lineOf}
 use Rattle.tracing.specs.Tracing.{Session, traced, sessionOf}

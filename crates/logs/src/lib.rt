@@ -1,7 +1,7 @@
 // A whole log in pieces of any size, in bounded memory.
 ghost use mathlib.Core.Path.{_≡_};
 ghost use Prim.Native.Nat.{_+_, _*_, _<_, _≤_, min};
-ghost use lib.ListN.{length, take};
+ghost use lib.ListN.{length};
 ghost use Rattle.text.specs.Text.{Wrote};
 ghost use Rattle.logs.specs.Logs.{header};
 ghost use Rattle.logs.specs.Pieces.{readingOf, opened, grown, given, newlineAt, takenOf, firstGiven, Gives, lastText};

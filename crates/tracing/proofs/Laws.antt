@@ -1,8 +1,8 @@
 -- What the code's cases say of a line. Assumes nothing.
-use mathlib.Core.Path.{_≡_, refl, ap, sym, _∙_}
+use mathlib.Core.Path.{_≡_, sym, _∙_}
 use mathlib.Core.Bool.{Bool, true, false}
 use mathlib.Core.List.{List}
-use Prim.Native.Nat.{ℕ, _<_, _≤_}
+use Prim.Native.Nat.{ℕ, _≤_}
 use native.Mathlib.Omega.{arith}
 use borrow.Author.Tests.{le-leb, lt-ltb}
 use lib.ListN.{length}
@@ -12,7 +12,7 @@ use Rattle.bus.specs.Device.{State, Outcome, out}
 use Rattle.bus.specs.declared.Answer.{Answer}
 use Rattle.bus.specs.declared.Answer.the-variants.{Nothing, Refused}
 use Rattle.device.specs.Refusals.{stepped}
-use Rattle.device.specs.PowerOn.{stateIn, powerOn, makingRefused, MadeOf}
+use Rattle.device.specs.PowerOn.{stateIn, powerOn, MadeOf}
 use Rattle.device.specs.declared.Device.{Device}
 use Rattle.lines.specs.declared.Line.{Line}
 use Rattle.lines.specs.declared.Line.the-variants.{Event, Unreadable, Device as MadeLine}

@@ -1,6 +1,4 @@
 // The trace program's work: one line in, one line out, and whole logs in pieces of any size.
-ghost use mathlib.Core.Path.{_≡_};
-ghost use mathlib.Core.Bool.{true};
 ghost use Prim.Native.Nat.{_+_, _≤_};
 ghost use lib.ListN.{length};
 ghost use Rattle.bus.specs.Device.{out as outcome};

@@ -1,9 +1,5 @@
 use borrow.Author.Needs.{needs}
 use mathlib.Core.Path.{refl, sym}
-use Prim.Native.Nat.{_≤_}
-use Rattle.text.specs.declared.Digits.{Digits}
-use Rattle.text.specs.declared.Digits.the-variants.{Number}
-use Rattle.lines.specs.Lines.{deviceWith}
 use native.Mathlib.Omega.{arith}
 use Rattle.lines.proofs.device_with.Statement.{statement}
 use Rattle.lines.proofs.device_with.Tie as tie
