@@ -22,7 +22,7 @@ fn sets_fit(x: Sets) -> bool
 }
 
 // Whether the state may stand: what refusal 3 asks.
-fn image_fits(file: &[u8; 128], r: Rest) -> bool
+pub fn image_fits(file: &[u8; 128], r: Rest) -> bool
     ensures { λ t. ⌜ t ≡ imageFits part24 (stateOf (now (file .entry)) r) ⌝ }
 {
     let x = r.sets;
