@@ -19,6 +19,7 @@ int printf(const char *format, ...);
 int dprintf(int file, const char *format, ...);
 void *memcpy(void *to, const void *from, size_t count);
 void *memmove(void *to, const void *from, size_t count);
+void *memset(void *to, int byte, size_t count);
 int memcmp(const void *a, const void *b, size_t count);
 _Noreturn void exit(int status);
 
