@@ -12,7 +12,8 @@ fail() {
 }
 
 objects() { # NAMES..
-    printf '%s ' "${@/#/$out/}" | sed 's/ /.o /g'
+    local name
+    for name; do echo "$out/$name.o"; done
 }
 
 build() {

@@ -14,8 +14,8 @@ static void worked_example(void)
         uint64_t argument;
         uint32_t answer, asserted;
     } events[] = {
-        {GHIXRAMEL_START, 0, NOTHING, 0},     {GHIXRAMEL_BYTE, 0x44, ACK, 0}, {GHIXRAMEL_BYTE, 0x54, ACK, 0},
-        {GHIXRAMEL_BYTE, 0xFE, ACK, 0}, {GHIXRAMEL_LEVELS, 0x000001, NOTHING, 1},
+        {GHIXRAMEL_START, 0, NOTHING, 0}, {GHIXRAMEL_BYTE, 0x44, ACK, 0},           {GHIXRAMEL_BYTE, 0x54, ACK, 0},
+        {GHIXRAMEL_BYTE, 0xFE, ACK, 0},   {GHIXRAMEL_LEVELS, 0x000001, NOTHING, 1},
     };
     about("worked example, at power-on", 0);
     struct ghixramel device = device_with(2, 0x000000);
