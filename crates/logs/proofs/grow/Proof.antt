@@ -1,9 +1,10 @@
-use mathlib.Core.Path.{_≡_, ap}
+use borrow.Author.Needs.{needs}
+use mathlib.Core.Path.{_≡_, ap, _∙_}
 use mathlib.Core.List.{List}
 use Prim.Native.Nat.{ℕ}
 use lib.ListN.{length}
 use Rattle.tracing.specs.Tracing.{sessionOf}
-use borrow.Author.Needs.{needs}
+use Rattle.text.proofs.Laws.{wrote-length}
 use Rattle.logs.proofs.Laws.{kept, kept-small, kept-room}
 use Rattle.logs.proofs.grow.Statement.{statement}
 use Rattle.logs.proofs.grow.Tie as tie
@@ -13,9 +14,6 @@ sub-room c = search needs
 
 least-requires : tie.Need-least-requires
 least-requires c κs = search needs
-
-slice-aggregate-put : tie.Need-slice-aggregate-put
-slice-aggregate-put c = search needs
 
 sub-put : tie.Need-sub-put
 sub-put c = search needs
@@ -28,29 +26,20 @@ part-put-end c = search needs
 
 put-requires : tie.Need-put-requires
 put-requires c κs =
-    let s = c .before .before .before .before .before .before in
-    let all : length (s .args .r .held) ≡ 33 = search needs in
-    kept-room (s .args .r .held) (s .args .part .now) (s .args .r .len) (c .before .before .least .result) all (s .pre) (c .before .before .least .ensures .2)
+    let s = c .before .before .before .before .before in
+    let all : length (s .args .held .now) ≡ 33 = search needs in
+    kept-room (s .args .held .now) (s .args .part .now) (s .args .r .len) (c .before .before .least .result) all (s .pre) (c .before .before .least .ensures .2)
 
 returns : tie.Need-returns
 returns c =
-    let p = c .before in
-    let s = p .before .before .before .before .before .before .before in
-    let all : length (s .args .r .held) ≡ 33 = search needs in
-    let least = p .before .before .before .least .ensures .2 in (
-      ap (λ (x : List ℕ). record { session = sessionOf (s .args .r .desk); begun = x }) (kept _ _ _ _ all (s .pre) least (p .put .ensures)),
-      kept-small _ _ _ _ all (s .pre) least (p .put .ensures),
+    let s = c .before .before .before .before .before .before in
+    let all : length (s .args .held .now) ≡ 33 = search needs in
+    let least = c .before .before .before .least .ensures .2 in
+    let small = kept-small _ _ _ _ all (s .pre) least (c .put .ensures) in (
+      λ file. ap (λ (x : List ℕ). record { session = sessionOf file (s .args .r .desk); begun = x }) (kept _ _ _ _ all (s .pre) least (c .put .ensures)),
+      wrote-length (c .put .ensures) ∙ all,
+      small,
     )
 
 pub grow-spec : {M : Type 1} → statement M
-grow-spec =
-    tie.close
-    (tie.spec
-    sub-room
-    least-requires
-    slice-aggregate-put
-    sub-put
-    part-put-start
-    part-put-end
-    put-requires
-    returns)
+grow-spec = tie.close (tie.spec sub-room least-requires sub-put part-put-start part-put-end put-requires returns)
