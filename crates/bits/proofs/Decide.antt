@@ -83,3 +83,7 @@ module _ (A : Type 0) (same : A → A → Bool) (sound : (a b : A) → T (same a
 -- `each 256 _ _ tt` proves a statement `(b : ℕ) → b < 256 → l ≡ r` of two numbers
 pub each : (n : ℕ) (f g : ℕ → ℕ) → T (agree-from ℕ eqb n 0 f g) → (k : ℕ) → k < n → f k ≡ g k
 each = decide-below ℕ eqb eqb→eq
+
+-- and of two Bools
+pub eachBool : (n : ℕ) (f g : ℕ → Bool) → T (agree-from Bool Bool·beq n 0 f g) → (k : ℕ) → k < n → f k ≡ g k
+eachBool = decide-below Bool Bool·beq beq→eq

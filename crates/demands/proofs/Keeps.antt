@@ -9,7 +9,7 @@ use borrow.Author.Tests.{lt-ltb, eqb-true, not-true}
 use lib.Dec.{eqb}
 use lib.ListN.{length, getD, set, length-set}
 use lib.Pow.{pow-pos}
-use Rattle.bits.proofs.Decide.{clash, and-left, and-right}
+use Rattle.bits.proofs.Decide.{eachBool, clash, and-left, and-right}
 use Rattle.pins.specs.AllPins.{Within}
 use Rattle.pins.specs.declared.Sets.{Sets}
 use Rattle.pins.proofs.AllPins.{map-within}
@@ -25,7 +25,7 @@ use Rattle.bus.specs.declared.Answer.the-variants.{Ack, Nak}
 use Rattle.device.specs.PowerOn.{powerOn}
 use Rattle.device.proofs.Images.{sound-of, known-small}
 use Rattle.demands.specs.Run.{Asked, after}
-use Rattle.demands.proofs.Pinwise.{eachBool, load-set}
+use Rattle.demands.proofs.Pinwise.{load-set}
 
 -- ---- the file, entry by entry
 module _ (p : Part) (file : List ℕ) where

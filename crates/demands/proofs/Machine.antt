@@ -4,6 +4,7 @@ use mathlib.Core.Bool.{Bool, true, false, cond}
 use Prim.Native.Nat.{ℕ, _+_, _<_}
 use lib.Dec.{eqb}
 use lib.ListN.{length}
+use Rattle.bits.proofs.Decide.{eachBool}
 use Rattle.bits.specs.Bits.{bit}
 use Rattle.pins.specs.Pin.{reset}
 use Rattle.pins.specs.OnePin.{OnePin, Registers, after, registersAfter, pinAfter}
@@ -17,7 +18,7 @@ use Rattle.bus.specs.Device.{State, Event, Bus, Outcome, busAt, number, goes, a
 use Rattle.bus.specs.Device.Bus.{Idle, Opened, Chosen, Filling, Sending, Call, Armed, Deaf}
 use Rattle.bus.specs.Device.Event.{Start, Stop, HardwareReset, ByteSent, ByteFetched, Levels}
 use Rattle.demands.specs.Happens.{sentIn, fetchedIn, happensTo}
-use Rattle.demands.proofs.Pinwise.{eachBool, registers-written}
+use Rattle.demands.proofs.Pinwise.{registers-written}
 
 same-pin : {a b : OnePin} → a .registers ≡ b .registers → a .pin ≡ b .pin → a ≡ b
 same-pin registers pin = λ j. record { registers = registers j; pin = pin j }

@@ -1,16 +1,16 @@
 -- The device is one machine a pin: what an event does to pin i of the device is what it is to that pin. Assumes nothing.
 use mathlib.Core.Path.{_≡_, refl, ap, _∙_}
-use mathlib.Core.Bool.{Bool, true, false, cond, _&&_, Bool·beq}
+use mathlib.Core.Bool.{Bool, true, false, cond, _&&_}
 use mathlib.Core.List.{List}
 use Prim.Native.Nat.{ℕ, zero, suc, _+_, _-_, _*_, _/_, _%_, _<_}
 use native.Mathlib.Nat.{div-add-mod'}
 use native.Mathlib.Omega.{arith}
 use borrow.Author.Tests.{eqb-true, eqb-false}
-use lib.Dec.{T, eqb}
+use lib.Dec.{eqb}
 use lib.ListN.{length, getD, set}
 use lib.Seq.{getD-set-same, getD-set-other}
 use Rattle.bits.specs.Bits.{bit}
-use Rattle.bits.proofs.Decide.{agree-from, decide-below, beq→eq, clash}
+use Rattle.bits.proofs.Decide.{eachBool, clash}
 use Rattle.bits.proofs.Laws.{bit-mod}
 use Rattle.pins.specs.Pin.{source}
 use Rattle.pins.specs.OnePin.{Registers, registers, registersAfter}
@@ -21,10 +21,6 @@ use Rattle.map.specs.Map.{Kind, part24, firstOf, kindAt, code, stored}
 use Rattle.map.specs.Map.Kind.{Reserved, Input, Status, InputStatus, Configuration, Latch, Mask, PortKind, Edge, Clear, Output, Polarity, PinKind, Stored}
 use Rattle.map.proofs.Rows.{ported}
 use Rattle.registers.specs.Registers.{groupBit, edgeByte, registersAt, ofPort, writtenTo, keptAs}
-
--- ---- which register holds a pin's bit, tried at each number
-pub eachBool : (n : ℕ) (f g : ℕ → Bool) → T (agree-from Bool Bool·beq n 0 f g) → (k : ℕ) → k < n → f k ≡ g k
-eachBool = decide-below Bool Bool·beq beq→eq
 
 -- number n is the q-th of the group of kind k exactly if it is of that kind, at that place
 abbrev Owns : Kind → ℕ → Type 0

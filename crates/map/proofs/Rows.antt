@@ -1,8 +1,8 @@
 -- The code's rows hold what the list of groups says, at each of the 128 numbers, which antt computes. Assumes nothing.
 use mathlib.Core.Path.{_≡_, refl, sym, ap, _∙_}
-use mathlib.Core.Bool.{Bool, true, not, cond, _||_}
+use mathlib.Core.Bool.{Bool, true, false, not, cond, _||_}
 use mathlib.Core.List.{List, [], _∷_}
-use Prim.Native.Nat.{ℕ, zero, suc, _+_, _-_, _*_, _/_, _%_, _^_, _<_}
+use Prim.Native.Nat.{ℕ, zero, suc, _+_, _-_, _*_, _/_, _%_, _^_, _<_, _≤_}
 use native.Mathlib.Nat.{mod-lt}
 use native.Mathlib.Omega.{arith}
 use lib.Bits.{bitAnd}
@@ -10,7 +10,7 @@ use lib.Dec.{eqb}
 use lib.ListN.{getD}
 use Rattle.bits.proofs.Decide.{each}
 use Rattle.map.specs.Rows.{kinds, backs}
-use Rattle.map.specs.Map.{Kind, part24, firstOf, kindAt, code, next}
+use Rattle.map.specs.Map.{Kind, part24, firstOf, kindAt, code, next, reserved}
 use Rattle.map.specs.Map.Kind.{Reserved, Input, Status, InputStatus, Configuration, Latch, Mask, PortKind, Edge, Clear, Output, Polarity, PinKind, Stored}
 
 -- a row that is none of the first seven
@@ -95,3 +95,24 @@ edge-test = each 128 _ _ tt
 
 pub edge-at : (n : ℕ) → n < 128 → kindAt part24 n ≡ Edge → n % 8 ≡ n - firstOf part24 Edge
 edge-at n h e = rw e at (edge-test n h)
+
+-- a bit for each number that is reserved, below 64 and above
+as-bit : (b : Bool) (x : ℕ) → x ≡ cond b 1 0 → eqb x 1 ≡ b
+as-bit true x e = ap (λ (y : ℕ). eqb y 1) e
+as-bit false x e = ap (λ (y : ℕ). eqb y 1) e
+
+low-bit : (n : ℕ) → n < 64 → bitAnd (0xffff_ffff_ffff_8888 / 2 ^ n) 1 ≡ cond (reserved part24 n) 1 0
+unfolding reserved kindAt
+low-bit = each 64 _ _ tt
+
+high-bit : (k : ℕ) → k < 64 → bitAnd (0xff88_88c0_e888_88c0 / 2 ^ k) 1 ≡ cond (reserved part24 (64 + k)) 1 0
+unfolding reserved kindAt
+high-bit = each 64 _ _ tt
+
+pub reserved-low : (n : ℕ) → n < 64 → eqb (bitAnd (0xffff_ffff_ffff_8888 / 2 ^ n) 1) 1 ≡ reserved part24 n
+reserved-low n h = as-bit (reserved part24 n) _ (low-bit n h)
+
+pub reserved-high : (n : ℕ) → 64 ≤ n → n < 128 → eqb (bitAnd (0xff88_88c0_e888_88c0 / 2 ^ (n - 64)) 1) 1 ≡ reserved part24 n
+reserved-high n l h =
+    let e : 64 + (n - 64) ≡ n = omega arith in
+    as-bit (reserved part24 (64 + (n - 64))) _ (high-bit (n - 64) (omega arith)) ∙ ap (reserved part24) e

@@ -67,11 +67,15 @@ pub fn next_of(n: u8) -> u8
     n + 1 - digit(backs_row(n / 16), n % 16)
 }
 
+// Whether n is a number of no group: a bit for each of the lower 64 numbers, and for each of the upper.
 pub fn is_reserved(n: u8) -> bool
     ensures { λ r. ⌜ r ≡ reserved part24 n ⌝ }
 {
+    if n < 64 {
+        return (0xffff_ffff_ffff_8888 >> n) & 1 == 1u64;
+    }
     if n < 128 {
-        return kind_of(n) == 0;
+        return (0xff88_88c0_e888_88c0 >> (n - 64)) & 1 == 1u64;
     }
     true
 }

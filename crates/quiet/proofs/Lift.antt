@@ -11,7 +11,7 @@ use lib.Dec.{eqb, ltb}
 use lib.ListN.{getD, set, length, length-set}
 use lib.Seq.{getD-set-same, getD-set-other}
 use Rattle.bits.specs.Bits.{bit}
-use Rattle.bits.proofs.Decide.{clash}
+use Rattle.bits.proofs.Decide.{eachBool, clash}
 use Rattle.ports.proofs.Bytes.{three}
 use Rattle.pins.specs.Pin.{Source, source, drive, status, configurationWritten}
 use Rattle.pins.specs.OnePin.{OnePin, after, registersAfter, pinAfter, statusOf}
@@ -21,7 +21,6 @@ use Rattle.map.specs.Map.{Kind, part24, kindAt, code, stored}
 use Rattle.map.specs.Map.Kind.{Reserved, Input, Status, InputStatus, Configuration, Latch, Mask, PortKind, Edge, Clear, Output, Polarity, PinKind, Stored}
 use Rattle.registers.specs.Registers.{Core, onePin, ofPort, writtenTo, writtenAs, written, keptAs}
 use Rattle.bus.specs.Device.{state}
-use Rattle.demands.proofs.Pinwise.{eachBool}
 use Rattle.demands.proofs.Machine.{write-pin}
 use Rattle.quiet.specs.Settings.{shape24, Settings, driveIn, Write, place, placeOf, put, run, nth}
 use Rattle.quiet.specs.Settings as set24

@@ -5,12 +5,12 @@ use mathlib.Core.List.{List, [], _∷_, _++_}
 use Prim.Native.Nat.{ℕ, zero, suc}
 use lib.ListN.{take}
 use borrow.Author.Tests.{not-true}
+use Rattle.bits.proofs.Decide.{eachBool}
 use Rattle.map.specs.Map.{part24, kindAt, reserved}
 use Rattle.bus.specs.Device.{State}
 use Rattle.device.specs.Refusals.{stepped}
 use Rattle.demands.specs.Run.{Asked, after}
 use Rattle.demands.specs.Transactions.{writeOver}
-use Rattle.demands.proofs.Pinwise.{eachBool}
 use Rattle.demands.proofs.Keeps.{WellFormed, run-keeps}
 use Rattle.demands.proofs.Transacting.{bus-write}
 use Rattle.quiet.specs.Settings.{Write}

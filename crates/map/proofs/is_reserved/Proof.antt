@@ -1,22 +1,29 @@
 use borrow.Author.Needs.{needs}
-use mathlib.Core.Path.{ap, _∙_}
-use Prim.Native.Nat.{ℕ}
-use lib.Dec.{eqb}
-use borrow.Author.Tests.{lt-ltb, le-ltb}
+use borrow.Author.Tests.{le-ltb}
 use Rattle.map.specs.Map.{reserved}
+use Rattle.map.proofs.Rows.{reserved-low, reserved-high}
 use Rattle.map.proofs.is_reserved.Statement.{statement}
 use Rattle.map.proofs.is_reserved.Tie as tie
 
-kind-of-requires : tie.Need-kind-of-requires
-kind-of-requires c κs = search needs
+shr-result : tie.Need-shr-result
+shr-result c = search needs
 
 returns : tie.Need-returns
-unfolding reserved
-returns c = ap (λ (k : ℕ). eqb k 0) (c .kind-of .ensures) ∙ simp (lt-ltb _ _ (c .before .if1 .taken))
+returns c = reserved-low (c .before .args .n) (c .if1 .taken)
+
+cast-result : tie.Need-cast-result
+cast-result c = search needs
+
+shr-result-2 : tie.Need-shr-result-2
+shr-result-2 c = search needs
 
 returns-2 : tie.Need-returns-2
+returns-2 c = reserved-high (c .before .before .args .n) (c .before .if1 .left) (c .if2 .taken)
+
+returns-3 : tie.Need-returns-3
 unfolding reserved
-returns-2 c = simp (le-ltb _ _ (c .if1 .left))
+returns-3 c = simp (le-ltb _ _ (c .if2 .left))
 
 pub is-reserved-spec : {M : Type 1} → statement M
-is-reserved-spec = tie.close (tie.spec kind-of-requires returns returns-2)
+is-reserved-spec =
+    tie.close (tie.spec shr-result returns cast-result shr-result-2 returns-2 returns-3)
