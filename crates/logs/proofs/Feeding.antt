@@ -9,7 +9,7 @@ use lib.Dec.{eqb, ltb}
 use lib.ListN.{length, take, drop, length-take, length-drop}
 use lib.Seq.{take-all}
 use Rattle.text.specs.Text.{Wrote}
-use Rattle.text.proofs.Laws.{wrote-as, wrote-both, wrote-length}
+use Rattle.text.proofs.Laws.{wrote-as, wrote-both, wrote-nothing, wrote-length}
 use Rattle.lines.specs.Lines.{lineOf}
 use Rattle.lines.proofs.Laws.{rest as tail}
 use Rattle.tracing.specs.Tracing.{Session, Traced, traced, sessionOf, Says}
@@ -22,10 +22,6 @@ use Rattle.logs.proofs.Laws.{given-first}
 -- the answer of the line that has begun
 abbrev answerOf : Reading → Traced
 answerOf r = traced (r .session) (lineOf (r .begun))
-
--- writing nothing
-wrote-nothing : (out : List ℕ) (at : ℕ) → Wrote out at [] at out
-wrote-nothing out at = record { ends = omega arith; holds = refl }
 
 module _ (r : Reading) (piece : List ℕ) (n : ℕ) (found : n ≡ newlineAt piece) (q : Reader) (begun : readingOf q ≡ grown r (take (n - 0) piece)) where
   pub none-gives : length piece ≤ n → q .len ≤ 33 → (out : List ℕ) (at : ℕ) → n ≤ length piece
