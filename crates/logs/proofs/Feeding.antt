@@ -11,12 +11,13 @@ use lib.Seq.{take-all}
 use Rattle.text.specs.Text.{Wrote}
 use Rattle.text.proofs.Laws.{wrote-as, wrote-both, wrote-nothing, wrote-length}
 use Rattle.lines.specs.Lines.{lineOf}
+use Rattle.pieces.specs.Pieces.{newlineAt}
 use Rattle.lines.proofs.Laws.{rest as tail}
 use Rattle.tracing.specs.Tracing.{Session, Traced, traced, sessionOf, Says}
 use Rattle.tracing.specs.declared.Desk.{Desk}
 use Rattle.tracing.proofs.Laws.{says-as, traced-short}
 use Rattle.logs.specs.declared.Reader.{Reader}
-use Rattle.logs.specs.Pieces.{Reading, Given, readingOf, grown, ended, andThen, given, newlineAt, takenOf, firstGiven, Gives, lastText}
+use Rattle.logs.specs.Pieces.{Reading, Given, readingOf, grown, ended, andThen, given, takenOf, firstGiven, Gives, lastText}
 use Rattle.logs.proofs.Laws.{given-first}
 
 -- the answer of the line that has begun

@@ -14,7 +14,7 @@ use Rattle.tracing.specs.Tracing.{Session, Traced, traced}
 use Rattle.tracing.specs.Tracing.Session.{NoDevice}
 use Rattle.logs.specs.Logs.{header, linesOf, lastLine, answersFrom, answersOf}
 use Rattle.logs.specs.Pieces.{Reading, Given, opened, grown, ended, andThen, given, lastText, joined, givenAll, written}
-use Rattle.logs.proofs.Laws.{take-again}
+use Rattle.pieces.proofs.Laws.{take-again}
 
 -- ---- pieces
 then-then : (s t : List ℕ) (g : Given) → andThen s (andThen t g) ≡ andThen (s ++ t) g

@@ -1,10 +1,10 @@
 // A whole log in pieces of any size, in bounded memory.
 ghost use mathlib.Core.Path.{_≡_};
-ghost use Prim.Native.Nat.{_+_, _*_, _<_, _≤_, min};
+ghost use Prim.Native.Nat.{_+_, _*_, _<_, _≤_};
 ghost use lib.ListN.{length};
 ghost use Rattle.text.specs.Text.{Wrote};
 ghost use Rattle.logs.specs.Logs.{header};
-ghost use Rattle.logs.specs.Pieces.{readingOf, opened, grown, given, newlineAt, takenOf, firstGiven, Gives, lastText};
+ghost use Rattle.logs.specs.Pieces.{readingOf, opened, grown, given, takenOf, firstGiven, Gives, lastText};
 use device::Device;
 use tracing::Desk;
 
@@ -21,29 +21,6 @@ pub struct Fed {
     pub end: usize,
 }
 
-// Where the first newline stands, or the length.
-fn newline_at(piece: &[u8]) -> usize
-    ensures { λ r. ⌜ (r ≡ newlineAt (now (piece .entry))) × (r ≤ length (now (piece .entry))) ⌝ }
-{
-    let mut i = 0;
-    while i < piece.len() {
-        if piece[i] == b'\n' {
-            return i;
-        }
-        i += 1;
-    }
-    i
-}
-
-fn least(a: usize, b: usize) -> usize
-    ensures { λ r. ⌜ (r ≤ a) × (r ≤ b) × (r ≡ min a b) ⌝ }
-{
-    if a < b {
-        return a;
-    }
-    b
-}
-
 // The line that has begun, with these bytes.
 fn grow(r: Reader, part: &[u8]) -> Reader
     requires { ⌜ r .len ≤ 33 ⌝ }
@@ -52,9 +29,7 @@ fn grow(r: Reader, part: &[u8]) -> Reader
     let desk = r.desk;
     let mut held = r.held;
     let len = r.len;
-    let room = 33 - len;
-    let n = least(room, part.len());
-    let end = text::put(&mut held, len, &part[0..n]);
+    let end = pieces::keep(&mut held, len, part);
     Reader {
         desk,
         held,
@@ -74,7 +49,7 @@ fn first_line(r: Reader, piece: &[u8], out: &mut [u8], at: usize) -> Took
     requires { ⌜ (r .len ≤ 33) × (at + 26 ≤ length (now out)) ⌝ }
     ensures { λ t. ⌜ Gives (firstGiven (readingOf r) (now (piece .entry))) (now (out .entry)) at (t .end) (now (out .exit)) (t .reader) × (t .taken ≡ takenOf (now (piece .entry))) ⌝ }
 {
-    let newline = newline_at(piece);
+    let newline = pieces::newline_at(piece);
     let line = grow(r, &piece[0..newline]);
     if piece.len() <= newline {
         return Took {

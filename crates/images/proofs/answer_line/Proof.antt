@@ -6,8 +6,8 @@ use mathlib.Core.Bool.{false}
 use Rattle.bus.specs.declared.Answer.the-variants.{Refused}
 use Rattle.text.proofs.Laws.{wrote-as}
 use Rattle.answers.proofs.Laws.{line-short}
-use Rattle.images.proofs.Reading.{readable-long}
-use Rattle.images.proofs.Writing.{unreadable-text, probed-text}
+use Rattle.fields.proofs.Reading.{readable-long}
+use Rattle.images.proofs.Laws.{unreadable-text, probed-text}
 use Rattle.images.proofs.answer_line.Statement.{statement}
 use Rattle.images.proofs.answer_line.Tie as tie
 

@@ -1,5 +1,5 @@
 use borrow.Author.Needs.{needs}
-use Rattle.images.proofs.Reading.{image-is}
+use Rattle.images.proofs.Laws.{image-is}
 use Rattle.images.proofs.device_in.Statement.{statement}
 use Rattle.images.proofs.device_in.Tie as tie
 

@@ -4,7 +4,7 @@ use mathlib.Core.Path.{ap, _∙_}
 use Rattle.text.proofs.Laws.{wrote-as}
 use Rattle.tracing.proofs.Laws.{told-line}
 use Rattle.images.specs.Images.{unended}
-use Rattle.images.proofs.Writing.{line-ends, part-short, part-is}
+use Rattle.images.proofs.Laws.{line-ends, part-short, part-is}
 use Rattle.images.proofs.put_answer.Statement.{statement}
 use Rattle.images.proofs.put_answer.Tie as tie
 

@@ -1,6 +1,6 @@
 use borrow.Author.Needs.{needs}
 use Rattle.text.proofs.Laws.{wrote-as, wrote-both}
-use Rattle.images.proofs.Writing.{bus-text}
+use Rattle.images.proofs.Laws.{bus-text}
 use Rattle.images.proofs.put_bus.Statement.{statement}
 use Rattle.images.proofs.put_bus.Tie as tie
 

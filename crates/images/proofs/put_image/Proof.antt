@@ -1,6 +1,6 @@
 use borrow.Author.Needs.{needs}
 use Rattle.text.proofs.Laws.{wrote-as, wrote-both}
-use Rattle.images.proofs.Writing.{image-text}
+use Rattle.images.proofs.Laws.{image-text}
 use Rattle.images.proofs.put_image.Statement.{statement}
 use Rattle.images.proofs.put_image.Tie as tie
 

@@ -1,5 +1,5 @@
 use borrow.Author.Needs.{needs}
-use Rattle.images.proofs.Writing.{line-answered, line-refused}
+use Rattle.images.proofs.Laws.{line-answered, line-refused}
 use Rattle.images.proofs.put_outcome.Statement.{statement}
 use Rattle.images.proofs.put_outcome.Tie as tie
 

@@ -1,6 +1,6 @@
 use borrow.Author.Needs.{needs}
 use Rattle.text.proofs.Laws.{wrote-as, wrote-both}
-use Rattle.images.proofs.Writing.{sets-text}
+use Rattle.images.proofs.Laws.{sets-text}
 use Rattle.images.proofs.put_sets.Statement.{statement}
 use Rattle.images.proofs.put_sets.Tie as tie
 

@@ -1,5 +1,5 @@
 use borrow.Author.Needs.{needs}
-use Rattle.images.proofs.Reading.{step-is}
+use Rattle.images.proofs.Laws.{step-is}
 use Rattle.images.proofs.step_in.Statement.{statement}
 use Rattle.images.proofs.step_in.Tie as tie
 

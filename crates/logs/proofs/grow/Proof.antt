@@ -1,56 +1,30 @@
 use mathlib.Core.Path.{_≡_, ap}
 use mathlib.Core.List.{List}
 use Prim.Native.Nat.{ℕ}
-use lib.ListN.{length}
-use Rattle.tracing.specs.Tracing.{sessionOf}
+use native.Mathlib.Omega.{arith}
 use borrow.Author.Needs.{needs}
-use Rattle.logs.proofs.Laws.{kept, kept-small, kept-room}
+use lib.ListN.{length}
+use Rattle.pieces.proofs.Laws.{kept-most}
+use Rattle.tracing.specs.Tracing.{sessionOf}
 use Rattle.logs.proofs.grow.Statement.{statement}
 use Rattle.logs.proofs.grow.Tie as tie
 
-sub-room : tie.Need-sub-room
-sub-room c = search needs
+slice-aggregate-keep : tie.Need-slice-aggregate-keep
+slice-aggregate-keep c = search needs
 
-least-requires : tie.Need-least-requires
-least-requires c κs = search needs
-
-slice-aggregate-put : tie.Need-slice-aggregate-put
-slice-aggregate-put c = search needs
-
-sub-put : tie.Need-sub-put
-sub-put c = search needs
-
-part-put-start : tie.Need-part-put-start
-part-put-start c = search needs
-
-part-put-end : tie.Need-part-put-end
-part-put-end c = search needs
-
-put-requires : tie.Need-put-requires
-put-requires c κs =
-    let s = c .before .before .before .before .before .before in
+keep-requires : tie.Need-keep-requires
+keep-requires c κs =
+    let s = c .before .before .before .before in
     let all : length (s .args .r .held) ≡ 33 = search needs in
-    kept-room (s .args .r .held) (s .args .part .now) (s .args .r .len) (c .before .before .least .result) all (s .pre) (c .before .before .least .ensures .2)
+    omega (arith, all, s .pre)
 
 returns : tie.Need-returns
 returns c =
-    let p = c .before in
-    let s = p .before .before .before .before .before .before .before in
+    let k = c .before in
+    let s = k .before .before .before .before .before in
     let all : length (s .args .r .held) ≡ 33 = search needs in
-    let least = p .before .before .before .least .ensures .2 in (
-      ap (λ (x : List ℕ). record { session = sessionOf (s .args .r .desk); begun = x }) (kept _ _ _ _ all (s .pre) least (p .put .ensures)),
-      kept-small _ _ _ _ all (s .pre) least (p .put .ensures),
-    )
+    let kept = kept-most 33 all (k .keep .ensures) in
+    (ap (λ (x : List ℕ). record { session = sessionOf (s .args .r .desk); begun = x }) (kept .0), kept .1)
 
 pub grow-spec : {M : Type 1} → statement M
-grow-spec =
-    tie.close
-    (tie.spec
-    sub-room
-    least-requires
-    slice-aggregate-put
-    sub-put
-    part-put-start
-    part-put-end
-    put-requires
-    returns)
+grow-spec = tie.close (tie.spec slice-aggregate-keep keep-requires returns)

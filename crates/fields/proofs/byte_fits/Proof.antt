@@ -1,6 +1,6 @@
 use borrow.Author.Needs.{needs}
-use Rattle.images.proofs.byte_fits.Statement.{statement}
-use Rattle.images.proofs.byte_fits.Tie as tie
+use Rattle.fields.proofs.byte_fits.Statement.{statement}
+use Rattle.fields.proofs.byte_fits.Tie as tie
 
 returns : tie.Need-returns
 returns c = rw (c .if1 .taken)

@@ -4,10 +4,10 @@ use mathlib.Core.Path.{_≡_, refl, sym, _∙_}
 use Prim.Native.Nat.{_*_, _-_, _≤_}
 use lib.ListN.{replicate}
 use lib.Seq.{sets}
-use Rattle.images.specs.Images.{bytesAt}
-use Rattle.images.proofs.Reading.{bytes-more, bytes-done, bytes-all}
-use Rattle.images.proofs.file_in.Statement.{statement}
-use Rattle.images.proofs.file_in.Tie as tie
+use Rattle.fields.specs.Fields.{bytesAt}
+use Rattle.fields.proofs.Reading.{bytes-more, bytes-done, bytes-all}
+use Rattle.fields.proofs.file_in.Statement.{statement}
+use Rattle.fields.proofs.file_in.Tie as tie
 
 abbrev Inv-loop : tie.InvT-loop
 Inv-loop line file₀ i₀ file i = (i ≤ 128) × (sets file i (bytesAt line (2 * i) (128 - i)) ≡ sets file₀ 0 (bytesAt line 0 128))

@@ -13,11 +13,7 @@ use Rattle.text.specs.declared.Digits.{Digits}
 use Rattle.text.specs.declared.Digits.the-variants.{Number, None}
 use Rattle.text.specs.Text.{digitOf, fieldOf}
 use Rattle.lines.proofs.Laws.{field-small}
-use Rattle.registers.specs.Registers.{core}
-use Rattle.map.specs.Map.{part24}
-use Rattle.bus.specs.Device.{State, Outcome, state}
-use Rattle.device.specs.Refusals.{stepped}
-use Rattle.images.specs.Images.{form, hasForm, lineForm, readable, numberAt, bytesAt, numberIn, imageIn, kindIn, argumentIn}
+use Rattle.fields.specs.Fields.{form, hasForm, lineForm, readable, numberAt, bytesAt}
 
 -- ---- tabs and digits at their places
 pub form-long : length lineForm ≡ 359
@@ -78,18 +74,6 @@ module _ (line : List ℕ) (at width most : ℕ) (full : most ≡ 16 ^ width - 1
 
   pub value-some : {n : ℕ} → d ≡ Number n → (n ≡ numberAt line at width) × (n ≤ most)
   value-some {n} e = (rw (← field-is, e), field-small width most (take (at + width - at) (drop at line)) .small n (sym read ∙ e))
-
--- the parts of an image
-pub image-is : (line : List ℕ) {file : List ℕ} {level reference held edge pointer bus choice : ℕ} → file ≡ bytesAt line 0 128
-    → level ≡ numberIn line 1 → reference ≡ numberIn line 2 → held ≡ numberIn line 3 → edge ≡ numberIn line 4
-    → pointer ≡ numberIn line 5 → bus ≡ numberIn line 6 → choice ≡ numberIn line 7
-    → state (core file (record { level = level; reference = reference; held = held; edge = edge })) pointer bus choice ≡ imageIn line
-image-is line f l r h e p b c =
-    λ j. state (core (f j) (record { level = l j; reference = r j; held = h j; edge = e j })) (p j) (b j) (c j)
-
-pub step-is : (line : List ℕ) {s : State} {o : Outcome} {kind arg : ℕ} → s ≡ imageIn line → kind ≡ kindIn line → arg ≡ argumentIn line → o ≡ stepped part24 s kind arg
-    → o ≡ stepped part24 (imageIn line) (kindIn line) (argumentIn line)
-step-is line i k a o = rw (← i, ← k, ← a) o
 
 -- ---- bytes
 bytes-long : (line : List ℕ) (at count : ℕ) → length (bytesAt line at count) ≡ count

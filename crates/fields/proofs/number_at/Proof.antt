@@ -1,7 +1,7 @@
 use borrow.Author.Needs.{needs}
-use Rattle.images.proofs.Reading.{value-none, value-some}
-use Rattle.images.proofs.number_at.Statement.{statement}
-use Rattle.images.proofs.number_at.Tie as tie
+use Rattle.fields.proofs.Reading.{value-none, value-some}
+use Rattle.fields.proofs.number_at.Statement.{statement}
+use Rattle.fields.proofs.number_at.Tie as tie
 
 add-to : tie.Need-add-to
 add-to c = search needs

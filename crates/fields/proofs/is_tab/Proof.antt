@@ -1,7 +1,7 @@
 use borrow.Author.Needs.{needs}
-use Rattle.images.proofs.Reading.{tab-places}
-use Rattle.images.proofs.is_tab.Statement.{statement}
-use Rattle.images.proofs.is_tab.Tie as tie
+use Rattle.fields.proofs.Reading.{tab-places}
+use Rattle.fields.proofs.is_tab.Statement.{statement}
+use Rattle.fields.proofs.is_tab.Tie as tie
 
 returns : tie.Need-returns
 returns c = tab-places _ (search needs)

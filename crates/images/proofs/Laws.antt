@@ -1,62 +1,48 @@
--- The texts of an image and of an answer. Assumes nothing.
+-- Images, their texts, and answers. Assumes nothing.
 use mathlib.Core.Path.{_≡_, refl, ap, sym, _∙_}
 use mathlib.Core.Bool.{Bool, true, false}
 use mathlib.Core.List.{List, [], _∷_, _++_, append-assoc, append-nil}
-use Prim.Native.Nat.{ℕ, suc, _+_, _-_, _*_, _<_, _≤_}
-use native.Mathlib.Numerals.{add-one}
+use Prim.Native.Nat.{ℕ, _+_, _-_, _<_, _≤_}
 use native.Mathlib.Omega.{arith}
-use lib.ListN.{length, getD, take, drop, length-take, drop-of-length-le}
-use lib.Seq.{drop-cons, sets, sets-eq, take-append-le}
+use borrow.Author.Tests.{ltb-true, ltb-false}
+use lib.Dec.{ltb}
+use lib.ListN.{length, take, drop, length-take}
+use lib.Seq.{sets-eq, take-all, length-take-le, take-append-le}
 use types.Run.{OneOf}
 use denote.Enum.Declared.{tagOf}
 use Rattle.bus.proofs.Answer.{the-type}
 use Rattle.bus.specs.declared.Answer.{Answer}
 use Rattle.bus.specs.declared.Answer.the-variants.{Nothing, Ack, Nak, Byte, Refused}
 use Rattle.text.specs.Text.{hexText, Wrote}
-use Rattle.text.proofs.Laws.{wrote-as, wrote-both, wrote-nothing, wrote-length}
+use Rattle.text.proofs.Laws.{wrote-as, wrote-both}
 use Rattle.answers.specs.Answers.{answerWord, columns, lineEnd, answerLine}
 use Rattle.answers.proofs.Laws.{answered, line-short}
 use Rattle.map.specs.Map.{part24}
-use Rattle.bus.specs.Device.{State, Outcome, out as outcome}
+use Rattle.registers.specs.Registers.{core}
+use Rattle.bus.specs.Device.{State, Outcome, state, out as outcome}
 use Rattle.device.specs.Refusals.{stepped}
 use Rattle.tracing.specs.Tracing.{shownLine}
-use Rattle.images.specs.Images.{widths, readable, imageIn, kindIn, argumentIn, bytesText, fieldsText, imageText, unended, probeLine, probeText}
+use Rattle.fields.specs.Fields.{widths, readable, bytesAt, numberIn, bytesText, fieldsText}
+use Rattle.fields.proofs.Reading.{other-length}
+use Rattle.pieces.specs.Pieces.{Kept}
+use Rattle.pieces.proofs.Laws.{kept-most, take-again}
+use Rattle.images.specs.declared.Line.{Line}
+use Rattle.images.specs.Begun.{Holds}
+use Rattle.images.specs.Images.{imageIn, kindIn, argumentIn, imageText, unended, probeLine, probeText}
 
--- ---- the registers
-bytes-cons : (bytes : List ℕ) (i : ℕ) → i < length bytes → bytesText (drop i bytes) ≡ hexText 2 (getD bytes i 0) ++ bytesText (drop (i + 1) bytes)
-unfolding bytesText
-bytes-cons bytes i h = rw (add-one i, drop-cons bytes i 0)
+-- ---- what the code gathers
+pub image-is : (line : List ℕ) {file : List ℕ} {level reference held edge pointer bus choice : ℕ} → file ≡ bytesAt line 0 128
+    → level ≡ numberIn line 1 → reference ≡ numberIn line 2 → held ≡ numberIn line 3 → edge ≡ numberIn line 4
+    → pointer ≡ numberIn line 5 → bus ≡ numberIn line 6 → choice ≡ numberIn line 7
+    → state (core file (record { level = level; reference = reference; held = held; edge = edge })) pointer bus choice ≡ imageIn line
+image-is line f l r h e p b c =
+    λ j. state (core (f j) (record { level = l j; reference = r j; held = h j; edge = e j })) (p j) (b j) (c j)
 
-bytes-none : (bytes : List ℕ) (i : ℕ) → length bytes ≤ i → bytesText (drop i bytes) ≡ []
-unfolding bytesText
-bytes-none bytes i h = rw (drop-of-length-le bytes {i = i} h)
+pub step-is : (line : List ℕ) {s : State} {o : Outcome} {kind arg : ℕ} → s ≡ imageIn line → kind ≡ kindIn line → arg ≡ argumentIn line → o ≡ stepped part24 s kind arg
+    → o ≡ stepped part24 (imageIn line) (kindIn line) (argumentIn line)
+step-is line i k a o = rw (← i, ← k, ← a) o
 
--- where the loop stands: to write the bytes that are left is to write them all
-pub record Spelling (out₀ : List ℕ) (at : ℕ) (bytes out : List ℕ) (end i : ℕ) : Type 0 where
-  pub within : i ≤ length bytes
-  pub long : length out ≡ length out₀
-  pub reached : end ≡ at + 2 * i
-  pub writes : {last : ℕ} {left : List ℕ} → Wrote out end (bytesText (drop i bytes)) last left → Wrote out₀ at (bytesText bytes) last left
-
-module _ {out₀ : List ℕ} {at : ℕ} {bytes : List ℕ} where
-  pub spelling-start : Spelling out₀ at bytes out₀ at 0
-  spelling-start = record { within = omega arith; long = refl; reached = omega arith; writes = λ w. w }
-
-  module _ {out : List ℕ} {end i : ℕ} (here : Spelling out₀ at bytes out end i) where
-    pub spelling-on : i < length bytes → {digits out′ : List ℕ} {end′ : ℕ} → digits ≡ hexText 2 (getD bytes i 0) → Wrote out end digits end′ out′ → Spelling out₀ at bytes out′ end′ (i + 1)
-    unfolding hexText
-    spelling-on h {digits} e w =
-        record {
-          within = omega arith;
-          long = wrote-length w ∙ here .long;
-          reached = omega (arith, w .ends, ap length e, here .reached);
-          writes = λ v. here .writes (wrote-as (sym (bytes-cons bytes i h)) (wrote-both (wrote-as e w) v));
-        }
-
-    pub spelling-done : length bytes ≤ i → Wrote out₀ at (bytesText bytes) end out × (end ≡ at + 2 * length bytes)
-    spelling-done h = (here .writes (wrote-as (sym (bytes-none bytes i h)) (wrote-nothing out end)), omega (arith, here .within, here .reached))
-
--- ---- the other fields, each with the tab before it
+-- ---- fields, each with the tab before it
 abbrev field : (width n : ℕ) → List ℕ
 field width n = 0x09 ∷ hexText width n
 
@@ -133,3 +119,29 @@ module _ (line : List ℕ) {t : Bool} (read : t ≡ readable line) where
   pub probed-text : t ≡ true → {o : Outcome} → o ≡ stepped part24 (imageIn line) (kindIn line) (argumentIn line) → probeLine o ≡ probeText line
   unfolding probeText
   probed-text e o = rw (← read, e, o)
+
+-- ---- a line that has begun
+-- of a line over 359 bytes the first 360 say as much as all of it
+probe-take : (text : List ℕ) → probeText (take 360 text) ≡ probeText text
+unfolding probeText
+probe-take text = go (ltb 359 (length text)) refl
+  where
+    go : (t : Bool) → ltb 359 (length text) ≡ t → probeText (take 360 text) ≡ probeText text
+    go true e =
+        let l : 359 < length text = ltb-true 359 (length text) e in
+        rw (other-length text (λ q. omega arith), other-length (take 360 text) (λ q. omega (arith, length-take-le 360 text (omega arith))))
+    go false e = let l : length text ≤ 359 = ltb-false 359 (length text) e in ap probeText (take-all 360 text (omega arith))
+
+pub grown-holds : (line : Line) {part left : List ℕ} {end : ℕ} → length (line .held) ≡ 360 → Kept (line .held) (line .len) part end left
+    → (end ≤ 360) × ((text : List ℕ) → Holds line text → Holds (record { held = left; len = end }) (text ++ part))
+grown-holds line {part} all k =
+    let kept = kept-most 360 all k in (
+      kept .1,
+      λ text h. record { small = kept .1; kept = kept .0 ∙ ap (λ (x : List ℕ). take 360 (x ++ part)) (h .kept) ∙ take-again 360 text part },
+    )
+
+pub held-answer : (line : Line) {out left : List ℕ} {at end : ℕ} → Wrote out at (probeText (take (line .len - 0) (line .held))) end left
+    → (text : List ℕ) → Holds line text → Wrote out at (probeText text) end left
+held-answer line w text h =
+    let e : line .len - 0 ≡ line .len = omega arith in
+    wrote-as (ap probeText (ap (λ (k : ℕ). take k (line .held)) e ∙ h .kept) ∙ probe-take text) w

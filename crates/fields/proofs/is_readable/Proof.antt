@@ -4,10 +4,10 @@ use borrow.Author.Tests.{not-true, not-false}
 use mathlib.Core.Path.{_≡_, refl, ap, sym, _∙_}
 use Prim.Native.Nat.{ℕ, _-_, _≤_}
 use lib.ListN.{drop}
-use Rattle.images.specs.Images.{readable, hasForm, lineForm}
-use Rattle.images.proofs.Reading.{other-length, form-ends, form-on, form-done}
-use Rattle.images.proofs.is_readable.Statement.{statement}
-use Rattle.images.proofs.is_readable.Tie as tie
+use Rattle.fields.specs.Fields.{readable, hasForm, lineForm}
+use Rattle.fields.proofs.Reading.{other-length, form-ends, form-on, form-done}
+use Rattle.fields.proofs.is_readable.Statement.{statement}
+use Rattle.fields.proofs.is_readable.Tie as tie
 
 abbrev Inv-loop : tie.InvT-loop
 Inv-loop line i₀ i = (i ≤ 359) × (readable line ≡ hasForm (drop i lineForm) (drop i line))
