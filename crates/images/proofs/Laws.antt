@@ -24,6 +24,7 @@ use Rattle.device.specs.Refusals.{stepped}
 use Rattle.tracing.specs.Tracing.{shownLine}
 use Rattle.fields.specs.Fields.{widths, readable, bytesAt, numberIn, bytesText, fieldsText}
 use Rattle.fields.proofs.Reading.{other-length}
+use Rattle.fields.proofs.Writing.{fields-both}
 use Rattle.pieces.specs.Pieces.{Kept}
 use Rattle.pieces.proofs.Laws.{kept-most, take-again}
 use Rattle.images.specs.declared.Line.{Line}
@@ -42,27 +43,7 @@ pub step-is : (line : List ℕ) {s : State} {o : Outcome} {kind arg : ℕ} → s
     → o ≡ stepped part24 (imageIn line) (kindIn line) (argumentIn line)
 step-is line i k a o = rw (← i, ← k, ← a) o
 
--- ---- fields, each with the tab before it
-abbrev field : (width n : ℕ) → List ℕ
-field width n = 0x09 ∷ hexText width n
-
-pub sets-text : (l r h e : ℕ) → field 16 l ++ (field 16 r ++ (field 16 h ++ field 16 e)) ≡ fieldsText (take 4 (drop 1 widths)) (l ∷ r ∷ h ∷ e ∷ [])
-unfolding fieldsText
-sets-text l r h e = rw (append-nil (hexText 16 e))
-
-pub bus-text : (p b c : ℕ) → field 2 p ++ (field 2 b ++ field 2 c) ≡ fieldsText (drop 5 widths) (p ∷ b ∷ c ∷ [])
-unfolding fieldsText
-bus-text p b c = rw (append-nil (hexText 2 c))
-
--- fields after fields
-fields-both : (ws ns vs ms : List ℕ) → length ws ≡ length ns → fieldsText ws ns ++ fieldsText vs ms ≡ fieldsText (ws ++ vs) (ns ++ ms)
-unfolding fieldsText
-fields-both [] [] vs ms e = refl
-fields-both [] (n ∷ ns) vs ms e = absurd (omega arith)
-fields-both (w ∷ ws) [] vs ms e = absurd (omega arith)
-fields-both (w ∷ ws) (n ∷ ns) vs ms e =
-    append-assoc (field w n) (fieldsText ws ns) (fieldsText vs ms) ∙ ap (λ (s : List ℕ). field w n ++ s) (fields-both ws ns vs ms (omega arith))
-
+-- ---- texts
 pub image-text : (s : State)
     → 0x09 ∷ bytesText (s .regs .file)
     ++ (fieldsText (take 4 (drop 1 widths)) (s .regs .sets .level ∷ s .regs .sets .reference ∷ s .regs .sets .held ∷ s .regs .sets .edge ∷ [])

@@ -1,15 +1,14 @@
 // State images as text: one line in, one step on the image that it says, one line out.
 ghost use mathlib.Core.Path.{_≡_};
-ghost use mathlib.Core.List.{List, [], _∷_, _++_};
+ghost use mathlib.Core.List.{List, [], _++_};
 ghost use Prim.Native.Nat.{ℕ, _+_, _≤_};
-ghost use lib.ListN.{length, take, drop};
+ghost use lib.ListN.{length};
 ghost use Rattle.map.specs.Map.{part24};
 ghost use Rattle.bus.specs.Device.{out as outcome};
 ghost use Rattle.device.specs.Refusals.{stepped};
 ghost use Rattle.device.specs.PowerOn.{stateIn};
 ghost use Rattle.text.specs.Text.{Wrote};
 ghost use Rattle.tracing.specs.Tracing.{shownLine};
-ghost use Rattle.fields.specs.Fields.{widths, numberAt, fieldsText};
 ghost use Rattle.images.specs.Images.{imageIn, kindIn, argumentIn, imageText, unended, probeLine, probeText};
 ghost use Rattle.images.specs.Begun.{Holds};
 use bus::Answer;
@@ -17,22 +16,15 @@ use device::Device;
 use device::Stepped;
 use pins::Sets;
 
-fn set_at(line: &[u8], at: usize) -> u64
-    requires { ⌜ at + 16 ≤ length (now line) ⌝ }
-    ensures { λ r. ⌜ r ≡ numberAt (now (line .entry)) at 16 ⌝ }
-{
-    fields::number_at(line, at, 16, u64::MAX)
-}
-
 fn device_in(line: &[u8]) -> Device
     requires { ⌜ length (now line) ≡ 359 ⌝ }
     ensures { λ d. ⌜ stateIn d ≡ imageIn (now (line .entry)) ⌝ }
 {
     let sets = Sets {
-        level: set_at(line, 257),
-        reference: set_at(line, 274),
-        held: set_at(line, 291),
-        edge: set_at(line, 308),
+        level: fields::word_at(line, 257),
+        reference: fields::word_at(line, 274),
+        held: fields::word_at(line, 291),
+        edge: fields::word_at(line, 308),
     };
     Device {
         file: fields::file_in(line),
@@ -43,42 +35,15 @@ fn device_in(line: &[u8]) -> Device
     }
 }
 
-// An event's kind.
-fn kind_in(line: &[u8]) -> u32
-    requires { ⌜ length (now line) ≡ 359 ⌝ }
-    ensures { λ r. ⌜ r ≡ kindIn (now (line .entry)) ⌝ }
-{
-    fields::number_at(line, 334, 8, 0xffff_ffff) as u32
-}
-
 // The step that the line asks.
 fn step_in(line: &[u8]) -> Stepped
     requires { ⌜ length (now line) ≡ 359 ⌝ }
     ensures { λ s. ⌜ outcome (s .answer) (stateIn (s .device)) ≡ stepped part24 (imageIn (now (line .entry))) (kindIn (now (line .entry))) (argumentIn (now (line .entry))) ⌝ }
 {
     let device = device_in(line);
-    let kind = kind_in(line);
-    let arg = set_at(line, 343);
+    let kind = fields::kind_in(line);
+    let arg = fields::word_at(line, 343);
     device.step(kind, arg)
-}
-
-fn put_sets(out: &mut [u8], at: usize, x: Sets) -> usize
-    requires { ⌜ at + 68 ≤ length (now out) ⌝ }
-    ensures { λ r. ⌜ Wrote (now (out .entry)) at (fieldsText (take 4 (drop 1 widths)) (x .level ∷ x .reference ∷ x .held ∷ x .edge ∷ [])) r (now (out .exit)) × (r ≡ at + 68) ⌝ }
-{
-    let level = fields::put_field(out, at, 16, x.level);
-    let reference = fields::put_field(out, level, 16, x.reference);
-    let held = fields::put_field(out, reference, 16, x.held);
-    fields::put_field(out, held, 16, x.edge)
-}
-
-fn put_bus(out: &mut [u8], at: usize, pointer: u8, bus: u8, choice: u8) -> usize
-    requires { ⌜ at + 9 ≤ length (now out) ⌝ }
-    ensures { λ r. ⌜ Wrote (now (out .entry)) at (fieldsText (drop 5 widths) (pointer ∷ bus ∷ choice ∷ [])) r (now (out .exit)) × (r ≡ at + 9) ⌝ }
-{
-    let first = fields::put_field(out, at, 2, pointer as u64);
-    let second = fields::put_field(out, first, 2, bus as u64);
-    fields::put_field(out, second, 2, choice as u64)
 }
 
 // The image's fields, a tab before each.
@@ -90,8 +55,8 @@ fn put_image(out: &mut [u8], at: usize, d: Device) -> usize
     let sets = d.sets;
     let tab = text::put(out, at, b"\t");
     let bytes = fields::put_bytes(out, tab, &file);
-    let pins = put_sets(out, bytes, sets);
-    put_bus(out, pins, d.pointer, d.bus, d.choice)
+    let pins = fields::put_sets(out, bytes, sets.level, sets.reference, sets.held, sets.edge);
+    fields::put_bus(out, pins, d.pointer, d.bus, d.choice)
 }
 
 // The line with which a trace tells an answer, without its newline.
