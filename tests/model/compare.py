@@ -13,6 +13,7 @@ from trace import run_log, split_lines
 
 COUNTS = {'trace': 1000, 'probe': 20000, 'plan': 3000}
 ALONE = 20
+LONG_LOGS, LONG_LINES = 5, 4000
 
 # Lines the planner's program cannot read; the answer to each is refusal 7.
 UNREADABLE_PLANS = (b'', b'plan', b'00', b'0' * 20, b'0' * 19 + b'\t' + b'0' * 20,
@@ -70,6 +71,7 @@ def compare_trace(command, rng, count):
             report('log %d by itself' % number, log, wanted, got, 1)
             return False, len(alone)
     logs = [generate.trace_log(rng) for _ in range(count)]
+    logs += [generate.long_log(rng, LONG_LINES) for _ in range(LONG_LOGS)]
     joined = b''.join(logs)
     wanted, got = run_log(joined), run(command, joined)
     if wanted == got:

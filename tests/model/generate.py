@@ -29,7 +29,7 @@ OUTPUT_WRITES = {'output': 4, 'configuration': 4, 'output port kind': 3, 'pin ou
                  'input latch': 1, 'interrupt mask': 1}
 OUTPUT_READS = {'input port': 4, 'input status': 4, 'interrupt status': 1, 'output': 1}
 
-# Writes, reads, and the weights of a log's acts in the order of `trace_log`.
+# Writes, reads, and the weights of a log's acts in the order of `Log.go_on`.
 TEMPERS = (
     (MIXED_WRITES, MIXED_READS, (30, 5, 16, 20, 8, 6, 3, 3, 3, 1, 0.3)),
     (MIXED_WRITES, MIXED_READS, (30, 5, 16, 20, 8, 6, 3, 3, 3, 1, 0.3)),
@@ -253,6 +253,13 @@ class Log:
                 self.event('byte\t%02x' % (0x60 + pin // 4))
                 self.event('byte\t%02x' % self.value(0x60 + pin // 4))
 
+    def go_on(self, length, weights):
+        """Acts by chance until the log has so many lines."""
+        acts = (self.write, self.hide_and_show, self.read, self.levels, self.read_back, self.general_call, self.stray,
+                self.other_address, self.garbage, self.hard_reset, self.device)
+        while len(self.lines) < length:
+            self.rng.choices(acts, weights)[0]()
+
 
 def trace_log(rng, alone=False):
     """A log of some 50 to 250 lines; alone, it may begin before a device, be empty, or lack its last newline."""
@@ -270,12 +277,17 @@ def trace_log(rng, alone=False):
     if rng.random() < 0.8:
         log.setting_up()
     length = rng.choice((50, 150, 200, 240))
-    acts = (log.write, log.hide_and_show, log.read, log.levels, log.read_back, log.general_call, log.stray,
-            log.other_address, log.garbage, log.hard_reset, log.device)
-    while len(log.lines) < length:
-        rng.choices(acts, log.weights)[0]()
+    log.go_on(length, log.weights)
     end = '' if alone and rng.random() < 0.6 else '\n'
     return ('\n'.join(log.lines) + end).encode('latin-1')
+
+
+def long_log(rng, length):
+    """A log of so many lines or a few more, all of one device from its power-on."""
+    log = Log(rng)
+    log.device()
+    log.go_on(length, log.weights[:-1] + (0,))
+    return ('\n'.join(log.lines) + '\n').encode('latin-1')
 
 
 # Probe lines.

@@ -1,5 +1,6 @@
 -- Images that fit, and what an event given by its kind and argument is. Assumes nothing.
 use mathlib.Core.Path.{_≡_, refl}
+use mathlib.Core.List.{List}
 use mathlib.Core.Bool.{Bool, true, false, not, _&&_, _||_}
 use Prim.Native.Nat.{ℕ, zero, suc, _^_, _<_}
 use native.Mathlib.Omega.{arith}
@@ -15,17 +16,25 @@ use Rattle.map.specs.Map.Kind.{Reserved}
 use Rattle.bus.specs.Device.{State, out, step}
 use Rattle.device.specs.Refusals.{setsFit, imageFits, refusal, stepped}
 use Rattle.bus.specs.Device.Event.{Start, Stop, HardwareReset, ByteSent, ByteFetched, Levels}
-use Rattle.bus.specs.Held.{Sound}
+use Rattle.bus.specs.Held.{Sound, stateOf}
+use Rattle.bus.specs.declared.Rest.{Rest}
 use Rattle.bus.specs.declared.Answer.the-variants.{Refused}
 
 -- the code's one test of the four sets
-pub sets-test : (x : Sets) → ltb (bitOr (bitOr (bitOr (x .level) (x .reference)) (x .held)) (x .edge)) (2 ^ 24) ≡ setsFit part24 x
+sets-test : (x : Sets) → ltb (bitOr (bitOr (bitOr (x .level) (x .reference)) (x .held)) (x .edge)) (2 ^ 24) ≡ setsFit part24 x
 unfolding setsFit
 sets-test x =
     simp (or-fits 24) (regroup (ltb (x .level) (2 ^ 24)) (ltb (x .reference) (2 ^ 24)) (ltb (x .held) (2 ^ 24)) (ltb (x .edge) (2 ^ 24)))
   where
     regroup : (a b c d : Bool) → (((a && b) && c) && d) ≡ (a && (b && (c && d)))
     regroup = taut 4 _ _ tt
+
+-- the code's test of plain numbers is the image's
+pub image-test : (file : List ℕ) (r : Rest)
+    → (not (reserved part24 (r .pointer)) && (ltb (r .bus) 8 && (ltb (r .choice) 4 && (ltb (bitOr (bitOr (bitOr (r .sets .level) (r .sets .reference)) (r .sets .held)) (r .sets .edge)) (2 ^ 24) && fileFits part24 file))))
+    ≡ imageFits part24 (stateOf file r)
+unfolding imageFits
+image-test file r = simp (sets-test (r .sets))
 
 within-of : (x : Sets) → setsFit part24 x ≡ true → Within 24 x
 unfolding setsFit

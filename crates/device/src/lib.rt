@@ -1,12 +1,12 @@
 // The device, as its callers have it: one step of it with every refusal, on lent memory and by value.
 ghost use mathlib.Core.Path.{_≡_};
-ghost use mathlib.Core.Bool.{true, cond};
-ghost use Prim.Native.Nat.{ℕ, _<_};
+ghost use mathlib.Core.Bool.{true, not, cond, _&&_};
+ghost use Prim.Native.Nat.{ℕ, _<_, _^_};
 ghost use lib.Dec.{ltb};
-ghost use Rattle.map.specs.Map.{part24, defaults};
+ghost use Rattle.map.specs.Map.{part24, reserved, fileFits, defaults};
 ghost use Rattle.registers.specs.Registers.{drivenLow, drivenHigh, intAsserted, shown};
 ghost use Rattle.bus.specs.Device.{out};
-ghost use Rattle.device.specs.Refusals.{imageFits, setsFit, stepped};
+ghost use Rattle.device.specs.Refusals.{imageFits, stepped};
 ghost use Rattle.bus.specs.Held.{stateOf};
 ghost use Rattle.device.specs.PowerOn.{stateIn, MadeOf};
 use bus::Answer;
@@ -14,21 +14,11 @@ use bus::Out;
 use bus::Rest;
 use pins::Sets;
 
-// Whether the four sets are of the part's pins.
-fn sets_fit(x: Sets) -> bool
-    ensures { λ r. ⌜ r ≡ setsFit part24 x ⌝ }
+// What refusal 3 asks, of plain numbers, which are passed in registers; all has the pins of all four sets.
+fn parts_fit(file: &[u8; 128], all: u64, pointer: u8, bus: u8, choice: u8) -> bool
+    ensures { λ t. ⌜ t ≡ (not (reserved part24 pointer) && (ltb bus 8 && (ltb choice 4 && (ltb all (2 ^ 24) && fileFits part24 (now (file .entry)))))) ⌝ }
 {
-    (x.level | x.reference | x.held | x.edge) < 0x100_0000
-}
-
-// Whether the state may stand: what refusal 3 asks.
-fn image_fits(file: &[u8; 128], r: Rest) -> bool
-    ensures { λ t. ⌜ t ≡ imageFits part24 (stateOf (now (file .entry)) r) ⌝ }
-{
-    let x = r.sets;
-    let bus = r.bus;
-    let choice = r.choice;
-    if map::is_reserved(r.pointer) {
+    if map::is_reserved(pointer) {
         return false;
     }
     if 8 <= bus {
@@ -37,10 +27,19 @@ fn image_fits(file: &[u8; 128], r: Rest) -> bool
     if 4 <= choice {
         return false;
     }
-    if !sets_fit(x) {
+    if 0x100_0000 <= all {
         return false;
     }
     map::file_fits(file)
+}
+
+// Whether the state may stand: what refusal 3 asks.
+pub fn image_fits(file: &[u8; 128], r: Rest) -> bool
+    ensures { λ t. ⌜ t ≡ imageFits part24 (stateOf (now (file .entry)) r) ⌝ }
+{
+    let x = r.sets;
+    let all = x.level | x.reference | x.held | x.edge;
+    parts_fit(file, all, r.pointer, r.bus, r.choice)
 }
 
 // START, STOP or hardware reset.
@@ -115,7 +114,9 @@ fn event(file: &mut [u8; 128], r: Rest, kind: u32, arg: u64) -> Out
 pub fn step(file: &mut [u8; 128], r: Rest, kind: u32, arg: u64) -> Out
     ensures { λ o. ⌜ out (o .answer) (stateOf (now (file .exit)) (o .rest)) ≡ stepped part24 (stateOf (now (file .entry)) r) kind arg ⌝ }
 {
-    if !image_fits(&*file, r) {
+    let x = r.sets;
+    let all = x.level | x.reference | x.held | x.edge;
+    if !parts_fit(&*file, all, r.pointer, r.bus, r.choice) {
         return Out {
             answer: Answer::Refused(3),
             rest: r,

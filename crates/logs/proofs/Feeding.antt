@@ -1,7 +1,7 @@
 -- What the code gives for the first line of a piece, for a whole piece and at the end. Assumes nothing.
 use mathlib.Core.Path.{_≡_, refl, ap, sym, _∙_}
 use mathlib.Core.Bool.{Bool, true, false, cond}
-use mathlib.Core.List.{List, [], _∷_}
+use mathlib.Core.List.{List, [], _∷_, _++_}
 use Prim.Native.Nat.{ℕ, _+_, _-_, _*_, _<_, _≤_}
 use native.Mathlib.Omega.{arith}
 use borrow.Author.Tests.{eq-eqb, ne-eqb, lt-ltb, le-ltb, ltb-true}
@@ -10,70 +10,75 @@ use lib.ListN.{length, take, drop, length-take, length-drop}
 use lib.Seq.{take-all}
 use Rattle.text.specs.Text.{Wrote}
 use Rattle.text.proofs.Laws.{wrote-as, wrote-both, wrote-nothing, wrote-length}
-use Rattle.lines.specs.Lines.{lineOf}
 use Rattle.pieces.specs.Pieces.{newlineAt}
+use Rattle.lines.specs.Lines.{lineOf}
 use Rattle.lines.proofs.Laws.{rest as tail}
-use Rattle.tracing.specs.Tracing.{Session, Traced, traced, sessionOf, Says}
+use Rattle.tracing.specs.Tracing.{Session, traced, sessionOf, Says}
 use Rattle.tracing.specs.declared.Desk.{Desk}
 use Rattle.tracing.proofs.Laws.{says-as, traced-short}
 use Rattle.logs.specs.declared.Reader.{Reader}
-use Rattle.logs.specs.Pieces.{Reading, Given, readingOf, grown, ended, andThen, given, takenOf, firstGiven, Gives, lastText}
-use Rattle.logs.proofs.Laws.{given-first}
+use Rattle.logs.specs.Pieces.{Reading, Given, readingOf, grown, answerOf, ended, andThen, given, takenOf, firstGiven, Gives, lastText}
+use Rattle.logs.proofs.Laws.{given-first, line-take}
 
--- the answer of the line that has begun
-abbrev answerOf : Reading → Traced
-answerOf r = traced (r .session) (lineOf (r .begun))
-
-module _ (r : Reading) (piece : List ℕ) (n : ℕ) (found : n ≡ newlineAt piece) (q : Reader) (begun : readingOf q ≡ grown r (take (n - 0) piece)) where
-  pub none-gives : length piece ≤ n → q .len ≤ 33 → (out : List ℕ) (at : ℕ) → n ≤ length piece
-      → Gives (firstGiven r piece) out at at out q × (n ≡ takenOf piece)
+-- the first line of a piece, or all of it
+module _ (r : Reading) (piece : List ℕ) (n : ℕ) (found : n ≡ newlineAt piece) where
+  pub none-gives : length piece ≤ n → n ≤ length piece → (out : List ℕ) (at : ℕ) {file held : List ℕ} {q : Reader} → readingOf file held q ≡ grown r piece → q .len ≤ 33 → length held ≡ 33
+      → Gives (firstGiven r piece) out at at out file held q × (n ≡ takenOf piece)
   unfolding firstGiven takenOf
-  none-gives all small out at le =
-      let e : take (n - 0) piece ≡ piece = take-all (n - 0) piece (omega arith) in
+  none-gives all le out at begun small whole =
       rw (le-ltb (newlineAt piece) (length piece) (omega arith)) (
-        record { wrote = wrote-nothing out at; goes-on = begun ∙ ap (grown r) e; small = small },
+        record { wrote = wrote-nothing out at; goes-on = begun; small = small; whole = whole },
         omega arith,
       )
 
-  pub line-gives : n < length piece → {out left : List ℕ} {at end : ℕ} {d : Desk} → Says (traced (sessionOf (q .desk)) (lineOf (take (q .len - 0) (q .held)))) out at end left d
-      → Gives (firstGiven r piece) out at end left (record { desk = d; held = q .held; len = 0 }) × (n + 1 ≡ takenOf piece)
+  pub line-gives : n < length piece → {out left file held : List ℕ} {at end : ℕ} {d : Desk} → Says (answerOf (grown r (take (n - 0) piece))) out at end left file d → length held ≡ 33
+      → Gives (firstGiven r piece) out at end left file held (record { desk = d; len = 0 }) × (n + 1 ≡ takenOf piece)
   unfolding firstGiven takenOf
-  line-gives inside {out} {left} {at} {end} {d} s =
-      let k : q .len - 0 ≡ q .len = omega arith in
+  line-gives inside {out} {left} {file} {held} {at} {end} {d} s whole =
       let m : n - 0 ≡ newlineAt piece = omega arith in
-      let e : traced (sessionOf (q .desk)) (lineOf (take (q .len - 0) (q .held))) ≡ answerOf (grown r (take (newlineAt piece) piece)) =
-      ap (λ (x : ℕ). traced (sessionOf (q .desk)) (lineOf (take x (q .held)))) k ∙ ap answerOf (begun ∙ ap (λ (x : ℕ). grown r (take x piece)) m) in
-      let t : Says (answerOf (grown r (take (newlineAt piece) piece))) out at end left d = says-as e s in
+      let t : Says (answerOf (grown r (take (newlineAt piece) piece))) out at end left file d = says-as (ap (λ (x : ℕ). answerOf (grown r (take x piece))) m) s in
       rw (lt-ltb (newlineAt piece) (length piece) (omega arith)) (
-        record { wrote = t .says; goes-on = ap (λ (x : Session). record { session = x; begun = [] }) (t .goes-on); small = omega arith },
+        record { wrote = t .says; goes-on = ap (λ (x : Session). record { session = x; begun = [] }) (t .goes-on); small = omega arith; whole = whole },
         omega arith,
       )
+
+-- a line that began in an earlier piece is read out of the held bytes, and one that did not where it lies
+module _ (file held : List ℕ) (r : Reader) where
+  pub line-joined : (line : Reader) (after part : List ℕ) → readingOf file after line ≡ grown (readingOf file held r) part
+      → traced (sessionOf file (line .desk)) (lineOf (take (line .len - 0) after)) ≡ answerOf (grown (readingOf file held r) part)
+  line-joined line after part e =
+      let k : line .len - 0 ≡ line .len = omega arith in
+      ap (λ (x : ℕ). traced (sessionOf file (line .desk)) (lineOf (take x after))) k ∙ ap answerOf e
+
+  pub line-whole : r .len ≡ 0 → (part : List ℕ) → traced (sessionOf file (r .desk)) (lineOf part) ≡ answerOf (grown (readingOf file held r) part)
+  line-whole z part =
+      ap (traced (sessionOf file (r .desk))) (sym (line-take part) ∙ ap (λ (k : ℕ). lineOf (take 33 (take k held ++ part))) (sym z))
 
 -- the end of the log
-module _ (r : Reader) where
-  part-is : take (r .len - 0) (r .held) ≡ take (r .len) (r .held)
-  part-is = let e : r .len - 0 ≡ r .len = omega arith in ap (λ (k : ℕ). take k (r .held)) e
+module _ (file held : List ℕ) (r : Reader) where
+  part-is : take (r .len - 0) held ≡ take (r .len) held
+  part-is = let e : r .len - 0 ≡ r .len = omega arith in ap (λ (k : ℕ). take k held) e
 
-  pub last-none : length (take (r .len - 0) (r .held)) ≡ 0 → (out : List ℕ) (at : ℕ) → Wrote out at (lastText (readingOf r)) at out
+  pub last-none : length (take (r .len - 0) held) ≡ 0 → (out : List ℕ) (at : ℕ) → Wrote out at (lastText (readingOf file held r)) at out
   unfolding lastText
-  last-none z out at = rw (eq-eqb (length (take (r .len) (r .held))) 0 (rw part-is at z)) (wrote-nothing out at)
+  last-none z out at = rw (eq-eqb (length (take (r .len) held)) 0 (rw part-is at z)) (wrote-nothing out at)
 
-  pub last-line : (length (take (r .len - 0) (r .held)) ≡ 0 → ⊥) → {out left : List ℕ} {at end : ℕ} {d : Desk}
-      → Says (traced (sessionOf (r .desk)) (lineOf (take (r .len - 0) (r .held)))) out at end left d → Wrote out at (lastText (readingOf r)) end left
+  pub last-line : (length (take (r .len - 0) held) ≡ 0 → ⊥) → {out left after : List ℕ} {at end : ℕ} {d : Desk}
+      → Says (traced (sessionOf file (r .desk)) (lineOf (take (r .len - 0) held))) out at end left after d → Wrote out at (lastText (readingOf file held r)) end left
   unfolding lastText
   last-line some s =
-      rw (ne-eqb (length (take (r .len) (r .held))) 0 (rw part-is at some))
-      (wrote-as (ap (λ (x : List ℕ). traced (sessionOf (r .desk)) (lineOf x) .line) part-is) (s .says))
+      rw (ne-eqb (length (take (r .len) held)) 0 (rw part-is at some))
+      (wrote-as (ap (λ (x : List ℕ). traced (sessionOf file (r .desk)) (lineOf x) .line) part-is) (s .says))
 
-  last-short : length (lastText (readingOf r)) ≤ 20
+  last-short : length (lastText (readingOf file held r)) ≤ 20
   unfolding lastText
-  last-short = go (eqb (length (take (r .len) (r .held))) 0)
+  last-short = go (eqb (length (take (r .len) held)) 0)
     where
-      go : (t : Bool) → length (cond t [] (ended (readingOf r) .text)) ≤ 20
+      go : (t : Bool) → length (cond t [] (ended (readingOf file held r) .text)) ≤ 20
       go true = omega arith
-      go false = traced-short (sessionOf (r .desk)) (lineOf (take (r .len) (r .held)))
+      go false = traced-short (sessionOf file (r .desk)) (lineOf (take (r .len) held))
 
-  pub last-fits : {out left : List ℕ} {at end : ℕ} → Wrote out at (lastText (readingOf r)) end left → at + 26 ≤ length out → end ≤ length left
+  pub last-fits : {out left : List ℕ} {at end : ℕ} → Wrote out at (lastText (readingOf file held r)) end left → at + 26 ≤ length out → end ≤ length left
   last-fits w h = omega (arith, w .ends, wrote-length w, last-short)
 
 -- ---- the loop over a piece's lines
@@ -105,41 +110,47 @@ pub taken-less : (rest : List ℕ) (taken : ℕ) → 0 < length rest → taken �
 taken-less rest taken some e = omega (arith, ap length (tail taken rest), length-drop taken rest, taken-some rest some)
 
 -- where the loop stands: what is left by writing the answers of the rest is what is left by writing those of the piece
-pub record Onward (r₀ : Reader) (piece out₀ : List ℕ) (at : ℕ) (out rest : List ℕ) (r : Reader) (end : ℕ) : Type 0 where
-  pub small : r .len ≤ 33
+pub record Onward (x₀ : Reading) (piece out₀ : List ℕ) (at : ℕ) (out rest : List ℕ) (x : Reading) (end : ℕ) : Type 0 where
+  pub small : length (x .begun) ≤ 33
   pub long : length out ≡ length out₀
   pub room : end + 20 * length rest + 6 ≤ length out
-  pub writes : {last : ℕ} {left : List ℕ} → Wrote out end (given (readingOf r) rest .text) last left → Wrote out₀ at (given (readingOf r₀) piece .text) last left
-  pub goes-to : given (readingOf r) rest .after ≡ given (readingOf r₀) piece .after
+  pub writes : {last : ℕ} {left : List ℕ} → Wrote out end (given x rest .text) last left → Wrote out₀ at (given x₀ piece .text) last left
+  pub goes-to : given x rest .after ≡ given x₀ piece .after
 
-module _ {r₀ : Reader} {piece out₀ : List ℕ} {at : ℕ} where
-  pub onward-start : (r₀ .len ≤ 33) × (at + 20 * length piece + 6 ≤ length out₀) → Onward r₀ piece out₀ at out₀ piece r₀ at
-  onward-start h = record { small = h .0; long = refl; room = h .1; writes = λ w. w; goes-to = refl }
+begun-small : (file held : List ℕ) (r : Reader) → r .len ≤ 33 → length (readingOf file held r .begun) ≤ 33
+begun-small file held r h = omega (arith, length-take (r .len) held)
 
-  module _ {out rest : List ℕ} {r : Reader} {end : ℕ} (here : Onward r₀ piece out₀ at out rest r end) where
-    pub onward-line : 0 < length rest → {out′ : List ℕ} {r′ : Reader} {end′ taken : ℕ} → Gives (firstGiven (readingOf r) rest) out end end′ out′ r′ → taken ≡ takenOf rest
-        → Onward r₀ piece out₀ at out′ (take (length rest - taken) (drop taken rest)) r′ end′
-    onward-line some {out′} {r′} {end′} {taken} g k =
-        let first : Given = firstGiven (readingOf r) rest in
+module _ {piece out₀ : List ℕ} {at : ℕ} where
+  pub onward-start : (file held : List ℕ) (r : Reader) → r .len ≤ 33 → at + 20 * length piece + 6 ≤ length out₀
+      → Onward (readingOf file held r) piece out₀ at out₀ piece (readingOf file held r) at
+  onward-start file held r h room = record { small = begun-small file held r h; long = refl; room = room; writes = λ w. w; goes-to = refl }
+
+  module _ {x₀ : Reading} {out rest : List ℕ} {x : Reading} {end : ℕ} (here : Onward x₀ piece out₀ at out rest x end) where
+    pub onward-line : 0 < length rest → {out′ file held : List ℕ} {r′ : Reader} {end′ taken : ℕ} → Gives (firstGiven x rest) out end end′ out′ file held r′ → taken ≡ takenOf rest
+        → Onward x₀ piece out₀ at out′ (take (length rest - taken) (drop taken rest)) (readingOf file held r′) end′
+    onward-line some {out′} {file} {held} {r′} {end′} {taken} g k =
+        let first : Given = firstGiven x rest in
+        let x′ : Reading = readingOf file held r′ in
         let e : take (length rest - taken) (drop taken rest) ≡ drop (takenOf rest) rest = tail taken rest ∙ ap (λ (n : ℕ). drop n rest) k in
-        let all : given (readingOf r) rest ≡ andThen (first .text) (given (readingOf r′) (take (length rest - taken) (drop taken rest))) =
-        given-first (readingOf r) rest (omega (arith, length-take (r .len) (r .held), here .small))
-        ∙ ap (λ (x : Reading). andThen (first .text) (given x (drop (takenOf rest) rest))) (sym (g .goes-on))
-        ∙ ap (λ (x : List ℕ). andThen (first .text) (given (readingOf r′) x)) (sym e) in
+        let all : given x rest ≡ andThen (first .text) (given x′ (take (length rest - taken) (drop taken rest))) =
+        given-first x rest (here .small)
+        ∙ ap (λ (y : Reading). andThen (first .text) (given y (drop (takenOf rest) rest))) (sym (g .goes-on))
+        ∙ ap (λ (y : List ℕ). andThen (first .text) (given x′ y)) (sym e) in
         record {
-          small = g .small;
+          small = begun-small file held r′ (g .small);
           long = wrote-length (g .wrote) ∙ here .long;
-          room = omega (arith, ap length e, length-drop (takenOf rest) rest, taken-some rest some, first-short (readingOf r) rest, g .wrote .ends, wrote-length (g .wrote), here .room);
-          writes = λ w. here .writes (wrote-as (sym (ap (λ (x : Given). x .text) all)) (wrote-both (g .wrote) w));
-          goes-to = sym (ap (λ (x : Given). x .after) all) ∙ here .goes-to;
+          room = omega (arith, ap length e, length-drop (takenOf rest) rest, taken-some rest some, first-short x rest, g .wrote .ends, wrote-length (g .wrote), here .room);
+          writes = λ w. here .writes (wrote-as (sym (ap (λ (y : Given). y .text) all)) (wrote-both (g .wrote) w));
+          goes-to = sym (ap (λ (y : Given). y .after) all) ∙ here .goes-to;
         }
 
-    pub onward-done : length rest ≤ 0 → Gives (given (readingOf r₀) piece) out₀ at end out r
+    pub onward-done : length rest ≤ 0 → {file held : List ℕ} {r : Reader} → readingOf file held r ≡ x → r .len ≤ 33 → length held ≡ 33 → Gives (given x₀ piece) out₀ at end out file held r
     unfolding given
-    onward-done none =
+    onward-done none here-is small whole =
         let e : rest ≡ [] = empty rest none in
         record {
-          wrote = here .writes (wrote-as (sym (ap (λ (x : List ℕ). given (readingOf r) x .text) e)) (wrote-nothing out end));
-          goes-on = sym (ap (λ (x : List ℕ). given (readingOf r) x .after) e) ∙ here .goes-to;
-          small = here .small;
+          wrote = here .writes (wrote-as (sym (ap (λ (y : List ℕ). given x y .text) e)) (wrote-nothing out end));
+          goes-on = here-is ∙ sym (ap (λ (y : List ℕ). given x y .after) e) ∙ here .goes-to;
+          small = small;
+          whole = whole;
         }

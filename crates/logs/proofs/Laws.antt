@@ -5,12 +5,13 @@ use mathlib.Core.List.{List, [], _∷_, _++_, append-assoc, append-nil}
 use Prim.Native.Nat.{ℕ, zero, suc, _+_, _-_, _<_, _≤_, min}
 use native.Mathlib.Numerals.{add-one}
 use native.Mathlib.Omega.{arith}
-use borrow.Author.Tests.{eq-eqb, ne-eqb, ltb-true, ltb-false}
+use borrow.Author.Tests.{eq-eqb, ne-eqb, lt-ltb, ltb-true, ltb-false}
 use lib.Dec.{eqb, ltb}
 use lib.ListN.{length, take, drop, getD, length-append, length-take}
 use lib.Seq.{drop-cons, drop-length, take-all, take-at, take-append-add, length-take-le, sets-eq}
 use Rattle.pieces.specs.Pieces.{newlineAt}
 use Rattle.pieces.proofs.Laws.{take-again}
+use Rattle.lines.specs.Lines.{lineOf}
 use Rattle.logs.specs.Pieces.{Reading, Given, grown, ended, andThen, given, takenOf, firstGiven}
 
 grown-twice : (r : Reading) (s t : List ℕ) → grown (grown r s) t ≡ grown r (s ++ t)
@@ -72,3 +73,14 @@ given-first r piece small = go (ltb (newlineAt piece) (length piece)) refl
     go false e =
         given-none r piece small (ltb-false (newlineAt piece) (length piece) e)
         ∙ ap (λ (x : List ℕ). given (grown r piece) x) (sym (drop-length piece))
+
+-- of a line over 32 bytes the first 33 say as much as all of it
+pub line-take : (s : List ℕ) → lineOf (take 33 s) ≡ lineOf s
+unfolding lineOf
+line-take s = go (ltb 32 (length s)) refl
+  where
+    go : (t : Bool) → ltb 32 (length s) ≡ t → lineOf (take 33 s) ≡ lineOf s
+    go true e =
+        let l : 32 < length s = ltb-true 32 (length s) e in
+        rw (lt-ltb 32 (length s) l, length-take-le 33 s (omega arith))
+    go false e = let l : length s ≤ 32 = ltb-false 32 (length s) e in ap lineOf (take-all 33 s (omega arith))

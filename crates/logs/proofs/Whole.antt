@@ -15,6 +15,7 @@ use Rattle.tracing.specs.Tracing.Session.{NoDevice}
 use Rattle.logs.specs.Logs.{header, linesOf, lastLine, answersFrom, answersOf}
 use Rattle.logs.specs.Pieces.{Reading, Given, opened, grown, ended, andThen, given, lastText, joined, givenAll, written}
 use Rattle.pieces.proofs.Laws.{take-again}
+use Rattle.logs.proofs.Laws.{line-take}
 
 -- ---- pieces
 then-then : (s t : List ℕ) (g : Given) → andThen s (andThen t g) ≡ andThen (s ++ t) g
@@ -39,17 +40,6 @@ unfolding givenAll joined given
 given-joined r [] = refl
 given-joined r (piece ∷ pieces) =
     ap (andThen (given r piece .text)) (given-joined (given r piece .after) pieces) ∙ sym (given-append r piece (joined pieces))
-
--- ---- lines: of a line over 32 bytes the first 33 say as much as all of it
-line-take : (s : List ℕ) → lineOf (take 33 s) ≡ lineOf s
-unfolding lineOf
-line-take s = go (ltb 32 (length s)) refl
-  where
-    go : (t : Bool) → ltb 32 (length s) ≡ t → lineOf (take 33 s) ≡ lineOf s
-    go true e =
-        let l : 32 < length s = ltb-true 32 (length s) e in
-        rw (lt-ltb 32 (length s) l, length-take-le 33 s (omega arith))
-    go false e = let l : length s ≤ 32 = ltb-false 32 (length s) e in ap lineOf (take-all 33 s (omega arith))
 
 -- what is given and what the end gives, of a line that has begun
 abbrev toEnd : Given → List ℕ

@@ -8,7 +8,7 @@ use lib.ListN.{length, take}
 use Rattle.text.specs.Text.{Wrote}
 use Rattle.pieces.specs.Pieces.{newlineAt}
 use Rattle.lines.specs.Lines.{lineOf}
-use Rattle.tracing.specs.Tracing.{Session, traced, sessionOf}
+use Rattle.tracing.specs.Tracing.{Session, Traced, traced, sessionOf}
 use Rattle.tracing.specs.Tracing.Session.{NoDevice}
 use Rattle.logs.specs.declared.Reader.{Reader}
 use Rattle.logs.specs.Logs.{header}
@@ -22,8 +22,8 @@ pub record Reading : Type 0 where
 abbrev pub opened : Reading
 opened = record { session = NoDevice; begun = [] }
 
-abbrev pub readingOf : Reader → Reading
-readingOf r = record { session = sessionOf (r .desk); begun = take (r .len) (r .held) }
+abbrev pub readingOf : (file held : List ℕ) → Reader → Reading
+readingOf file held r = record { session = sessionOf file (r .desk); begun = take (r .len) held }
 
 abbrev pub grown : Reading → List ℕ → Reading
 grown r more = record { session = r .session; begun = take 33 (r .begun ++ more) }
@@ -33,9 +33,13 @@ pub record Given : Type 0 where
   pub text : List ℕ
   pub after : Reading
 
--- the line that has begun is answered, and the next begins
+-- the answer of the line that has begun
+abbrev pub answerOf : Reading → Traced
+answerOf r = traced (r .session) (lineOf (r .begun))
+
+-- it is answered, and the next begins
 abbrev pub ended : Reading → Given
-ended r = record { text = traced (r .session) (lineOf (r .begun)) .line; after = record { session = traced (r .session) (lineOf (r .begun)) .after; begun = [] } }
+ended r = record { text = answerOf r .line; after = record { session = answerOf r .after; begun = [] } }
 
 abbrev pub andThen : List ℕ → Given → Given
 andThen text g = record { text = text ++ g .text; after = g .after }
@@ -55,11 +59,12 @@ unfoldable pub firstGiven : Reading → (piece : List ℕ) → Given
 firstGiven r piece =
     cond (ltb (newlineAt piece) (length piece)) (ended (grown r (take (newlineAt piece) piece))) (record { text = []; after = grown r piece })
 
--- the answers written from at on, and the reader after
-pub record Gives (g : Given) (out : List ℕ) (at end : ℕ) (left : List ℕ) (r : Reader) : Type 0 where
+-- the answers written from at on, and the register file, the held bytes and the reader after
+pub record Gives (g : Given) (out : List ℕ) (at end : ℕ) (left file held : List ℕ) (r : Reader) : Type 0 where
   pub wrote : Wrote out at (g .text) end left
-  pub goes-on : readingOf r ≡ g .after
+  pub goes-on : readingOf file held r ≡ g .after
   pub small : r .len ≤ 33
+  pub whole : length held ≡ 33
 
 -- at the end of the log: a line that has begun counts
 unfoldable pub lastText : Reading → List ℕ

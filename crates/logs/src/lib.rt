@@ -1,17 +1,21 @@
 // A whole log in pieces of any size, in bounded memory.
 ghost use mathlib.Core.Path.{_≡_};
-ghost use Prim.Native.Nat.{_+_, _*_, _<_, _≤_};
+ghost use mathlib.Core.List.{List};
+ghost use Prim.Native.Nat.{ℕ, _+_, _*_, _≤_};
 ghost use lib.ListN.{length};
 ghost use Rattle.text.specs.Text.{Wrote};
+ghost use Rattle.tracing.specs.Tracing.{Says};
 ghost use Rattle.logs.specs.Logs.{header};
-ghost use Rattle.logs.specs.Pieces.{readingOf, opened, grown, given, takenOf, firstGiven, Gives, lastText};
-use device::Device;
+ghost use Rattle.logs.specs.Pieces.{readingOf, opened, grown, answerOf, given, takenOf, firstGiven, Gives, lastText};
+use bus::Rest;
+use pins::Sets;
 use tracing::Desk;
+use tracing::Told;
 
-// What is carried from piece to piece: the desk, and the line that has begun, of which 33 bytes are kept.
+// What is carried from piece to piece beside the register file and the held bytes, which the caller lends: the desk,
+// and how many bytes of the line that has begun are held.
 pub struct Reader {
     pub desk: Desk,
-    pub held: [u8; 33],
     pub len: usize,
 }
 
@@ -22,19 +26,52 @@ pub struct Fed {
 }
 
 // The line that has begun, with these bytes.
-fn grow(r: Reader, part: &[u8]) -> Reader
+fn grow(held: &mut [u8; 33], r: Reader, part: &[u8]) -> Reader
     requires { ⌜ r .len ≤ 33 ⌝ }
-    ensures { λ y. ⌜ (readingOf y ≡ grown (readingOf r) (now (part .entry))) × (y .len ≤ 33) ⌝ }
+    ensures { λ y. ⌜ ((file : List ℕ) → readingOf file (now (held .exit)) y ≡ grown (readingOf file (now (held .entry)) r) (now (part .entry))) × (length (now (held .exit)) ≡ 33) × (y .len ≤ 33) ⌝ }
 {
     let desk = r.desk;
-    let mut held = r.held;
     let len = r.len;
-    let end = pieces::keep(&mut held, len, part);
-    Reader {
-        desk,
-        held,
-        len: end,
+    let end = pieces::keep(held, len, part);
+    Reader { desk, len: end }
+}
+
+// The line that has begun ends with this part: its answer is written from at on.
+fn joined_line(
+    file: &mut [u8; 128],
+    held: &mut [u8; 33],
+    r: Reader,
+    part: &[u8],
+    out: &mut [u8],
+    at: usize,
+) -> Told
+    requires { ⌜ (r .len ≤ 33) × (length (now held) ≡ 33) × (at + 26 ≤ length (now out)) ⌝ }
+    ensures { λ t. ⌜ Says (answerOf (grown (readingOf (now (file .entry)) (now (held .entry)) r) (now (part .entry)))) (now (out .entry)) at (t .end) (now (out .exit)) (now (file .exit)) (t .desk) × (length (now (held .exit)) ≡ 33) ⌝ }
+{
+    let line = grow(held, r, part);
+    let desk = line.desk;
+    let len = line.len;
+    let bytes = *held;
+    tracing::answer_line(file, desk, &bytes[0..len], out, at)
+}
+
+// The same; a line that lies whole in the piece is read where it lies.
+fn end_line(
+    file: &mut [u8; 128],
+    held: &mut [u8; 33],
+    r: Reader,
+    part: &[u8],
+    out: &mut [u8],
+    at: usize,
+) -> Told
+    requires { ⌜ (r .len ≤ 33) × (length (now held) ≡ 33) × (at + 26 ≤ length (now out)) ⌝ }
+    ensures { λ t. ⌜ Says (answerOf (grown (readingOf (now (file .entry)) (now (held .entry)) r) (now (part .entry)))) (now (out .entry)) at (t .end) (now (out .exit)) (now (file .exit)) (t .desk) × (length (now (held .exit)) ≡ 33) ⌝ }
+{
+    if r.len == 0 {
+        let desk = r.desk;
+        return tracing::answer_line(file, desk, part, out, at);
     }
+    joined_line(file, held, r, part, out, at)
 }
 
 // The reader after a line, where its answer ends, and how much of the piece it took.
@@ -45,29 +82,29 @@ struct Took {
 }
 
 // The first line of a piece: its answer is written from at on. A piece with no newline is all carried on.
-fn first_line(r: Reader, piece: &[u8], out: &mut [u8], at: usize) -> Took
-    requires { ⌜ (r .len ≤ 33) × (at + 26 ≤ length (now out)) ⌝ }
-    ensures { λ t. ⌜ Gives (firstGiven (readingOf r) (now (piece .entry))) (now (out .entry)) at (t .end) (now (out .exit)) (t .reader) × (t .taken ≡ takenOf (now (piece .entry))) ⌝ }
+fn first_line(
+    file: &mut [u8; 128],
+    held: &mut [u8; 33],
+    r: Reader,
+    piece: &[u8],
+    out: &mut [u8],
+    at: usize,
+) -> Took
+    requires { ⌜ (r .len ≤ 33) × (length (now held) ≡ 33) × (at + 26 ≤ length (now out)) ⌝ }
+    ensures { λ t. ⌜ Gives (firstGiven (readingOf (now (file .entry)) (now (held .entry)) r) (now (piece .entry))) (now (out .entry)) at (t .end) (now (out .exit)) (now (file .exit)) (now (held .exit)) (t .reader) × (t .taken ≡ takenOf (now (piece .entry))) ⌝ }
 {
     let newline = pieces::newline_at(piece);
-    let line = grow(r, &piece[0..newline]);
     if piece.len() <= newline {
+        let reader = grow(held, r, piece);
         return Took {
-            reader: line,
+            reader,
             end: at,
             taken: newline,
         };
     }
-    let desk = line.desk;
-    let held = line.held;
-    let len = line.len;
-    let told = tracing::answer_line(desk, &held[0..len], out, at);
-    let after = told.desk;
-    let reader = Reader {
-        desk: after,
-        held,
-        len: 0,
-    };
+    let told = end_line(file, held, r, &piece[0..newline], out, at);
+    let desk = told.desk;
+    let reader = Reader { desk, len: 0 };
     Took {
         reader,
         end: told.end,
@@ -76,15 +113,22 @@ fn first_line(r: Reader, piece: &[u8], out: &mut [u8], at: usize) -> Took
 }
 
 // Every complete line of a piece is answered, each line's reader handing the rest onward; the answers are written from at on.
-pub fn feed(reader: Reader, piece: &[u8], out: &mut [u8], at: usize) -> Fed
-    requires { ⌜ (reader .len ≤ 33) × (at + 20 * length (now piece) + 6 ≤ length (now out)) ⌝ }
-    ensures { λ f. ⌜ Gives (given (readingOf reader) (now (piece .entry))) (now (out .entry)) at (f .end) (now (out .exit)) (f .reader) × (f .end ≤ length (now (out .exit))) ⌝ }
+pub fn feed(
+    file: &mut [u8; 128],
+    held: &mut [u8; 33],
+    reader: Reader,
+    piece: &[u8],
+    out: &mut [u8],
+    at: usize,
+) -> Fed
+    requires { ⌜ (reader .len ≤ 33) × (length (now held) ≡ 33) × (at + 20 * length (now piece) + 6 ≤ length (now out)) ⌝ }
+    ensures { λ f. ⌜ Gives (given (readingOf (now (file .entry)) (now (held .entry)) reader) (now (piece .entry))) (now (out .entry)) at (f .end) (now (out .exit)) (now (file .exit)) (now (held .exit)) (f .reader) × (f .end ≤ length (now (out .exit))) ⌝ }
 {
     let mut rest = piece;
     let mut r = reader;
     let mut end = at;
     while 0 < rest.len() {
-        let took = first_line(r, rest, out, end);
+        let took = first_line(file, held, r, rest, out, end);
         let next = took.reader;
         let taken = took.taken;
         r = next;
@@ -96,16 +140,22 @@ pub fn feed(reader: Reader, piece: &[u8], out: &mut [u8], at: usize) -> Fed
 
 // No device yet, and no line.
 pub fn start() -> Reader
-    ensures { λ r. ⌜ (readingOf r ≡ opened) × (r .len ≤ 33) ⌝ }
+    ensures { λ r. ⌜ ((file held : List ℕ) → readingOf file held r ≡ opened) × (r .len ≡ 0) ⌝ }
 {
-    let made = Device::power_on(0, 0);
-    let device = made.device;
-    let desk = Desk { has: false, device };
-    Reader {
-        desk,
-        held: [0; 33],
-        len: 0,
-    }
+    let sets = Sets {
+        level: 0,
+        reference: 0,
+        held: 0,
+        edge: 0,
+    };
+    let rest = Rest {
+        sets,
+        pointer: 0,
+        bus: 0,
+        choice: 0,
+    };
+    let desk = Desk { has: false, rest };
+    Reader { desk, len: 0 }
 }
 
 // Puts the header into out from at on, and says where it ends.
@@ -117,17 +167,16 @@ pub fn put_header(out: &mut [u8], at: usize) -> usize
 }
 
 // The end of the log: a last line without newline is answered if it holds a byte. Says where the answer ends.
-pub fn finish(r: Reader, out: &mut [u8], at: usize) -> usize
-    requires { ⌜ (r .len ≤ 33) × (at + 26 ≤ length (now out)) ⌝ }
-    ensures { λ end. ⌜ Wrote (now (out .entry)) at (lastText (readingOf r)) end (now (out .exit)) × (end ≤ length (now (out .exit))) ⌝ }
+pub fn finish(file: &mut [u8; 128], held: &[u8], r: Reader, out: &mut [u8], at: usize) -> usize
+    requires { ⌜ (r .len ≤ length (now held)) × (at + 26 ≤ length (now out)) ⌝ }
+    ensures { λ end. ⌜ Wrote (now (out .entry)) at (lastText (readingOf (now (file .entry)) (now (held .entry)) r)) end (now (out .exit)) × (end ≤ length (now (out .exit))) ⌝ }
 {
     let desk = r.desk;
-    let held = r.held;
     let len = r.len;
     let line = &held[0..len];
     if line.len() == 0 {
         return at;
     }
-    let told = tracing::answer_line(desk, line, out, at);
+    let told = tracing::answer_line(file, desk, line, out, at);
     told.end
 }

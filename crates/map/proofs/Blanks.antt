@@ -1,9 +1,9 @@
 -- What the code gathers of a file's entries is what the list of groups asks of them. Assumes nothing.
-use mathlib.Core.Path.{_≡_, refl, sym, ap, _∙_}
+use mathlib.Core.Path.{_≡_, refl, sym, ap, ap₂, _∙_}
 use mathlib.Core.Bool.{Bool, true, false, _&&_}
 use mathlib.Core.List.{List}
-use Prim.Native.Nat.{ℕ, zero, suc, _+_}
-use native.Mathlib.Nat.{add-zero}
+use Prim.Native.Nat.{ℕ, zero, suc, _+_, _*_, _<_, _≤_}
+use native.Mathlib.Nat.{add-zero, zero-add, suc-add, mul-zero, mul-comm, le-mul-of-pos-right}
 use native.Mathlib.Omega.{arith}
 use borrow.Author.Tests.{eqb-true, ne-eqb, eqb-false, eq-eqb}
 use lib.Bits.{bitOr, or-add-and, and-le-r, or-zero-l}
@@ -11,7 +11,7 @@ use lib.Dec.{eqb, ltb}
 use lib.ListN.{getD}
 use Rattle.bits.proofs.Decide.{taut}
 use Rattle.map.specs.Map.{part24, kindAt, fitting, fileFits}
-use Rattle.map.specs.Blank.{blank}
+use Rattle.map.specs.Blank.{blank, firstHalf, belowKind, aboveKind}
 
 -- both are 0 exactly if no bit is set in either
 pub or-zero : (a b : ℕ) → eqb (bitOr a b) 0 ≡ (eqb a 0 && eqb b 0)
@@ -21,28 +21,48 @@ or-zero a b = go (eqb a 0) refl
     go true e = ap (λ (x : ℕ). eqb (bitOr x b) 0) (eqb-true a 0 e) ∙ ap (λ (x : ℕ). eqb x 0) (or-zero-l b)
     go false e = ne-eqb (bitOr a b) 0 (λ z. eqb-false a 0 e (omega (arith, or-add-and a b, and-le-r a b)))
 
--- one entry more, at the end
-pub blank-more : (file : List ℕ) (a n : ℕ) → (blank file a n && eqb (getD file (a + n) 0) 0) ≡ blank file a (suc n)
-unfolding blank
-blank-more file a zero = ap (λ (k : ℕ). eqb (getD file k 0) 0) (add-zero a) ∙ sym (and-true (eqb (getD file a 0) 0))
+-- the same of a word and another above it
+stacked : (a b c : ℕ) → 0 < c → eqb (a + c * b) 0 ≡ (eqb a 0 && eqb b 0)
+stacked a b c h = go (eqb a 0) (eqb b 0) refl refl
   where
-    and-true : (b : Bool) → (b && true) ≡ b
-    and-true = taut 1 _ _ tt
-blank-more file a (suc n) =
-    and-assoc (eqb (getD file a 0) 0) (blank file (suc a) n) (eqb (getD file (a + suc n) 0) 0)
-    ∙ ap (λ (b : Bool). eqb (getD file a 0) 0 && b) (ap (λ (k : ℕ). blank file (suc a) n && eqb (getD file k 0) 0) (omega arith) ∙ blank-more file (suc a) n)
+    above : b ≤ b * c
+    above = le-mul-of-pos-right b h
+
+    go : (s t : Bool) → eqb a 0 ≡ s → eqb b 0 ≡ t → eqb (a + c * b) 0 ≡ (s && t)
+    go true true e f = eq-eqb (a + c * b) 0 (ap₂ (λ (x y : ℕ). x + c * y) (eqb-true a 0 e) (eqb-true b 0 f) ∙ zero-add (c * 0) ∙ mul-zero c)
+    go true false e f = ne-eqb (a + c * b) 0 (λ z. eqb-false b 0 f (omega (arith, z, above, mul-comm b c)))
+    go false t e f = ne-eqb (a + c * b) 0 (λ z. eqb-false a 0 e (omega (arith, z)))
+
+-- entries on from entries
+blank-on : (file : List ℕ) (a n m : ℕ) → (blank file a n && blank file (a + n) m) ≡ blank file a (n + m)
+unfolding blank
+blank-on file a zero m = ap₂ (λ (k j : ℕ). blank file k j) (add-zero a) (sym (zero-add m))
+blank-on file a (suc n) m =
+    and-assoc (eqb (getD file a 0) 0) (blank file (suc a) n) (blank file (a + suc n) m)
+    ∙ ap (λ (b : Bool). eqb (getD file a 0) 0 && b) (ap (λ (k : ℕ). blank file (suc a) n && blank file k m) (omega arith) ∙ blank-on file (suc a) n m)
+    ∙ ap (blank file a) (sym (suc-add n m))
   where
     and-assoc : (p q r : Bool) → ((p && q) && r) ≡ (p && (q && r))
     and-assoc = taut 3 _ _ tt
 
--- the entries where nothing is stored, in their runs: below the output port kind's, and above
-abbrev pub below-kind : List ℕ → Bool
-below-kind file =
-    (((blank file 0x00 4 && blank file 0x07 1) && blank file 0x0b 1) && blank file 0x0f 0x31)
-    && ((((blank file 0x46 2 && blank file 0x4b 1) && blank file 0x4f 1) && blank file 0x53 1) && blank file 0x57 5)
+-- words on from words, the second above the first or beside it
+module _ (file : List ℕ) (a n m x y : ℕ) (p : eqb x 0 ≡ blank file a n) (q : eqb y 0 ≡ blank file (a + n) m) where
+  pub word-above : (c : ℕ) → 0 < c → eqb (x + c * y) 0 ≡ blank file a (n + m)
+  word-above c h = stacked x y c h ∙ ap₂ (λ (s t : Bool). s && t) p q ∙ blank-on file a n m
 
-abbrev pub above-kind : List ℕ → Bool
-above-kind file = ((blank file 0x5d 3 && blank file 0x66 0x0a) && blank file 0x73 1) && blank file 0x77 9
+  pub word-beside : eqb (bitOr x y) 0 ≡ blank file a (n + m)
+  word-beside = or-zero x y ∙ ap₂ (λ (s t : Bool). s && t) p q ∙ blank-on file a n m
+
+pub one-blank : (file : List ℕ) (a : ℕ) → eqb (getD file a 0) 0 ≡ blank file a 1
+unfolding blank
+one-blank file a = sym (and-true (eqb (getD file a 0) 0))
+  where
+    and-true : (b : Bool) → (b && true) ≡ b
+    and-true = taut 1 _ _ tt
+
+pub three-blank : (file : List ℕ) (a b c : ℕ)
+    → eqb (bitOr (bitOr (getD file a 0) (getD file b 0)) (getD file c 0)) 0 ≡ ((blank file a 1 && blank file b 1) && blank file c 1)
+three-blank file a b c = simp (or-zero, one-blank file a, one-blank file b, one-blank file c)
 
 -- each of the n entries from a on is 0, and the rest holds
 unfoldable blankThen : List ℕ → (a n : ℕ) → Bool → Bool
@@ -59,25 +79,59 @@ blank-then file a (suc n) rest =
     and-flat : (p q r : Bool) → (p && (q && r)) ≡ ((p && q) && r)
     and-flat = taut 3 _ _ tt
 
-runs : (file : List ℕ)
-    → fileFits part24 file
-    ≡ blankThen file 0x00 4 (blankThen file 0x07 1 (blankThen file 0x0b 1 (blankThen file 0x0f 0x31 (blankThen file 0x46 2 (blankThen file 0x4b 1 (blankThen file 0x4f 1 (blankThen file 0x53 1 (blankThen file 0x57 5 (ltb (getD file 0x5c 0) 8 && (blankThen file 0x5d 3 (blankThen file 0x66 0x0a (blankThen file 0x73 1 (blankThen file 0x77 9 true)))))))))))))
-unfolding fileFits fitting kindAt blankThen
-runs file = refl
+module _ (file : List ℕ) where
+  -- one part, then the rest
+  six : (a b c d e f rest : Bool) → (a && (b && (c && (d && (e && (f && rest)))))) ≡ ((((a && ((b && c) && d)) && e) && f) && rest)
+  six = taut 7 _ _ tt
 
-regroup : (a b c d e f g h i k l m n o : Bool)
-    → (a && (b && (c && (d && (e && (f && (g && (h && (i && (k && (l && (m && (n && (o && true))))))))))))))
-    ≡ ((((((a && b) && c) && d) && ((((e && f) && g) && h) && i)) && (((l && m) && n) && o)) && k)
-regroup = taut 14 _ _ tt
+  seven : (a b c d e f g rest : Bool) → (a && (b && (c && (d && (e && (f && (g && rest))))))) ≡ (((((((a && e) && f) && b) && c) && d) && g) && rest)
+  seven = taut 8 _ _ tt
 
--- what the code tests: no bit is set in any of the runs, and the output port kind is below 8
-pub fits-runs : (file : List ℕ) → fileFits part24 file ≡ ((below-kind file && above-kind file) && ltb (getD file 0x5c 0) 8)
-fits-runs file = runs file ∙ simp blank-then (regroup (blank file 0x00 4) (blank file 0x07 1) (blank file 0x0b 1) (blank file 0x0f 0x31) (blank file 0x46 2) (blank file 0x4b 1) (blank file 0x4f 1) (blank file 0x53 1) (blank file 0x57 5) (ltb (getD file 0x5c 0) 8) (blank file 0x5d 3) (blank file 0x66 0x0a) (blank file 0x73 1) (blank file 0x77 9))
+  first-then : (rest : Bool)
+      → blankThen file 0x00 4 (blankThen file 0x07 1 (blankThen file 0x0b 1 (blankThen file 0x0f 1 (blankThen file 0x10 24 (blankThen file 0x28 24 rest)))))
+      ≡ (firstHalf file && rest)
+  unfolding firstHalf
+  first-then rest =
+      simp blank-then (six (blank file 0x00 4) (blank file 0x07 1) (blank file 0x0b 1) (blank file 0x0f 1) (blank file 0x10 24) (blank file 0x28 24) rest)
 
--- the verdict from the bits that were gathered
-module _ (file : List ℕ) (bits : ℕ) (e : eqb bits 0 ≡ (below-kind file && above-kind file)) where
-  pub unfit : (bits ≡ 0 → ⊥) → false ≡ fileFits part24 file
-  unfit h = sym (fits-runs file ∙ ap (λ (b : Bool). b && ltb (getD file 0x5c 0) 8) (sym e ∙ ne-eqb bits 0 h))
+  below-then : (rest : Bool)
+      → blankThen file 0x46 2 (blankThen file 0x4b 1 (blankThen file 0x4f 1 (blankThen file 0x53 1 (blankThen file 0x57 1 (blankThen file 0x58 4 rest)))))
+      ≡ (belowKind file && rest)
+  unfolding belowKind
+  below-then rest =
+      simp blank-then (six (blank file 0x46 2) (blank file 0x4b 1) (blank file 0x4f 1) (blank file 0x53 1) (blank file 0x57 1) (blank file 0x58 4) rest)
 
-  pub fit : bits ≡ 0 → ltb (getD file 0x5c 0) 8 ≡ fileFits part24 file
-  fit h = sym (fits-runs file ∙ ap (λ (b : Bool). b && ltb (getD file 0x5c 0) 8) (sym e ∙ eq-eqb bits 0 h))
+  above-then : (rest : Bool)
+      → blankThen file 0x5d 1 (blankThen file 0x5e 2 (blankThen file 0x66 2 (blankThen file 0x68 8 (blankThen file 0x73 1 (blankThen file 0x77 1 (blankThen file 0x78 8 rest))))))
+      ≡ (aboveKind file && rest)
+  unfolding aboveKind
+  above-then rest =
+      simp blank-then (seven (blank file 0x5d 1) (blank file 0x5e 2) (blank file 0x66 2) (blank file 0x68 8) (blank file 0x73 1) (blank file 0x77 1) (blank file 0x78 8) rest)
+
+  abbrev kindFits : Bool
+  kindFits = ltb (getD file 0x5c 0) 8
+
+  -- part by part, as the list of groups has them
+  runs : fileFits part24 file
+      ≡ blankThen file 0x00 4 (blankThen file 0x07 1 (blankThen file 0x0b 1 (blankThen file 0x0f 1 (blankThen file 0x10 24 (blankThen file 0x28 24
+      (blankThen file 0x46 2 (blankThen file 0x4b 1 (blankThen file 0x4f 1 (blankThen file 0x53 1 (blankThen file 0x57 1 (blankThen file 0x58 4
+      (kindFits && blankThen file 0x5d 1 (blankThen file 0x5e 2 (blankThen file 0x66 2 (blankThen file 0x68 8 (blankThen file 0x73 1 (blankThen file 0x77 1
+      (blankThen file 0x78 8 true))))))))))))))))))
+  unfolding fileFits fitting kindAt blankThen
+  runs = refl
+
+  -- what the code tests: no bit is set in any of them, and the output port kind is below 8
+  fits-runs : fileFits part24 file ≡ (((firstHalf file && belowKind file) && aboveKind file) && kindFits)
+  fits-runs =
+      runs ∙ simp (first-then, below-then, above-then) (regroup (firstHalf file) (belowKind file) kindFits (aboveKind file))
+    where
+      regroup : (p q k r : Bool) → (p && (q && (k && (r && true)))) ≡ (((p && q) && r) && k)
+      regroup = taut 4 _ _ tt
+
+  -- the verdict from the bits that were gathered
+  module _ (bits : ℕ) (e : eqb bits 0 ≡ ((firstHalf file && belowKind file) && aboveKind file)) where
+    pub unfit : (bits ≡ 0 → ⊥) → false ≡ fileFits part24 file
+    unfit h = sym (fits-runs ∙ ap (λ (b : Bool). b && kindFits) (sym e ∙ ne-eqb bits 0 h))
+
+    pub fit : bits ≡ 0 → kindFits ≡ fileFits part24 file
+    fit h = sym (fits-runs ∙ ap (λ (b : Bool). b && kindFits) (sym e ∙ eq-eqb bits 0 h))

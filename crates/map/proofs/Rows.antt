@@ -2,29 +2,35 @@
 use mathlib.Core.Path.{_≡_, refl, sym, ap, _∙_}
 use mathlib.Core.Bool.{Bool, true, not, cond, _||_}
 use mathlib.Core.List.{List, [], _∷_}
-use Prim.Native.Nat.{ℕ, _+_, _-_, _*_, _/_, _%_, _^_, _<_}
+use Prim.Native.Nat.{ℕ, zero, suc, _+_, _-_, _*_, _/_, _%_, _^_, _<_}
 use native.Mathlib.Nat.{mod-lt}
 use native.Mathlib.Omega.{arith}
 use lib.Bits.{bitAnd}
 use lib.Dec.{eqb}
 use lib.ListN.{getD}
 use Rattle.bits.proofs.Decide.{each}
+use Rattle.map.specs.Rows.{kinds, backs}
 use Rattle.map.specs.Map.{Kind, part24, firstOf, kindAt, code, next}
 use Rattle.map.specs.Map.Kind.{Reserved, Input, Status, InputStatus, Configuration, Latch, Mask, PortKind, Edge, Clear, Output, Polarity, PinKind, Stored}
 
-abbrev pub kinds : List ℕ
-kinds =
-    0x0444_0bbb_0aaa_0111 ∷ 0x0000_0000_0000_0000 ∷ 0x0000_0000_0000_0000 ∷ 0x0000_0000_0000_0000
-    ∷ 0x0ddd_0555_00dd_dddd ∷ 0x0007_0222_0666_0ddd ∷ 0x0333_0999_0088_8888 ∷ 0x0000_0000_0ddd_0ccc ∷ []
-
-abbrev pub backs : List ℕ
-backs =
-    0x1300_1300_1300_1300 ∷ 0x1111_1111_1111_1111 ∷ 0x1111_1111_1111_1111 ∷ 0x1111_1111_1111_1111
-    ∷ 0x1300_1300_1160_0000 ∷ 0x1111_1300_1300_1300 ∷ 0x1300_1300_1160_0000 ∷ 0x1111_1111_1120_1300 ∷ []
+-- a row that is none of the first seven
+pub last-row : (k : ℕ) → k < 8 → ((((((Unit {0} × (k ≡ 0 → ⊥)) × (k ≡ 1 → ⊥)) × (k ≡ 2 → ⊥)) × (k ≡ 3 → ⊥)) × (k ≡ 4 → ⊥)) × (k ≡ 5 → ⊥)) × (k ≡ 6 → ⊥) → k ≡ 7
+last-row zero h z = absurd (z .0 .0 .0 .0 .0 .0 .1 refl)
+last-row (suc zero) h z = absurd (z .0 .0 .0 .0 .0 .1 refl)
+last-row (suc (suc zero)) h z = absurd (z .0 .0 .0 .0 .1 refl)
+last-row (suc (suc (suc zero))) h z = absurd (z .0 .0 .0 .1 refl)
+last-row (suc (suc (suc (suc zero)))) h z = absurd (z .0 .0 .1 refl)
+last-row (suc (suc (suc (suc (suc zero))))) h z = absurd (z .0 .1 refl)
+last-row (suc (suc (suc (suc (suc (suc zero)))))) h z = absurd (z .1 refl)
+last-row (suc (suc (suc (suc (suc (suc (suc zero))))))) h z = refl
+last-row (suc (suc (suc (suc (suc (suc (suc (suc k)))))))) h z = absurd (omega arith)
 
 -- the digit of n
+abbrev pub digitIn : (n row : ℕ) → ℕ
+digitIn n row = bitAnd (row / 2 ^ (4 * (n % 16))) 15
+
 abbrev pub digitAt : List ℕ → ℕ → ℕ
-digitAt rows n = bitAnd (getD rows (n / 16) 0 / 2 ^ (4 * (n % 16))) 15
+digitAt rows n = digitIn n (getD rows (n / 16) 0)
 
 pub kinds-right : (n : ℕ) → n < 128 → digitAt kinds n ≡ code (kindAt part24 n)
 unfolding kindAt

@@ -1,2 +1,3 @@
 pub mod Map
 pub mod Blank
+pub mod Rows

@@ -10,7 +10,7 @@ use lib.Dec.{ltb}
 use lib.ListN.{length, take, drop, getD, length-append}
 use lib.Seq.{drop-cons, take-all, take-at, take-append-add, length-take-le, sets-eq}
 use Rattle.text.specs.Text.{Wrote}
-use Rattle.text.proofs.Laws.{wrote-as}
+use Rattle.text.proofs.Laws.{wrote-as, wrote-length}
 use Rattle.pieces.specs.Pieces.{newlineAt, Kept}
 
 module _ (piece : List ℕ) (i : ℕ) (inside : i < length piece) where
@@ -48,6 +48,7 @@ module _ (held part : List ℕ) (len n : ℕ) (fits : len ≤ length held) (leas
       let w : Wrote held len (take n part) end left = wrote-as part-is v in
       let e : length (take len held) + (length held - len) ≡ length held = omega (arith, held-length) in
       record {
+        long = wrote-length w;
         small = omega (arith, part-length, w .ends);
         kept =
             ap (take end) (w .holds ∙ sets-eq (take n part) held len (omega (arith, part-length)))

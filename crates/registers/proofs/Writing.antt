@@ -5,16 +5,16 @@ use mathlib.Core.List.{List}
 use Prim.Native.Nat.{ℕ, _-_, _%_, _<_}
 use native.Mathlib.Omega.{arith}
 use lib.ListN.{set}
+use Rattle.bits.specs.Bits.{bit}
 use Rattle.pins.specs.Pin.{Source, Pin, only}
 use Rattle.pins.specs.AllPins.{Within, pinAt, mapPins}
 use Rattle.pins.specs.OnePin.{Registers, Happening, pinAfter}
 use Rattle.pins.specs.OnePin.Happening.{OutputWritten, PolarityWritten, PinKindWritten, Elsewhere}
-use Rattle.ports.specs.Ports.{portBit}
+use Rattle.ports.specs.Ports.{inPort, portBit}
 use Rattle.pins.specs.declared.Sets.{Sets}
-use Rattle.pins.proofs.AllPins.{mapped}
+use Rattle.pins.proofs.AllPins.{mapped, map-ext}
 use Rattle.map.specs.Map.{Kind, part24, firstOf, kindAt, code, stored}
 use Rattle.map.specs.Map.Kind.{Reserved, Input, Status, InputStatus, Configuration, Latch, Mask, PortKind, Edge, Clear, Output, Polarity, PinKind, Stored}
-use Rattle.map.proofs.Rows.{ported, port-at, edge-at}
 use Rattle.registers.specs.Registers.{Core, core, registersAt, ofPort, writtenTo, writtenAs, written, keptAs}
 
 -- equal field by field
@@ -31,6 +31,12 @@ pub written-here : (here : Bool) (rule : Bool → Pin → Pin) (e : Happening) (
 unfolding only pinAfter
 written-here true rule e v x q = q
 written-here false rule e v x q = refl
+
+-- whatever the rule: the code's, on the set of pins concerned and on the bits given for them, is the definition's at each pin
+pub by-rule : (x : Sets) (v : ℕ → Registers) (here : ℕ → Bool) (rule : ℕ → Bool → Pin → Pin) (done : ℕ → Pin → Pin) (e : ℕ → Happening) (s : ℕ)
+    → ((i : ℕ) → bit s i ≡ here i) → ((i : ℕ) → i < 24 → done i ≡ rule i (here i)) → ((i : ℕ) → (p : Pin) → rule i true p ≡ pinAfter (e i) (v i) p)
+    → {y : Sets} → y ≡ mapPins 24 x (λ i. only (bit s i) (done i)) → y ≡ mapPins 24 x (λ i. pinAfter (cond (here i) (e i) Elsewhere) (v i))
+by-rule x v here rule done e s f g q h = h ∙ map-ext 24 x _ _ (λ i b. cc (f i, g i b, written-here (here i) (rule i) (e i) (v i) (pinAt x i) (q i (pinAt x i))))
 
 -- sets whose pins all stay are the same sets
 pub unmoved : (w : ℕ) (x : Sets) (f : ℕ → Pin → Pin) → Within w x → ((i : ℕ) → f i (pinAt x i) ≡ pinAt x i) → x ≡ mapPins w x f
@@ -94,25 +100,22 @@ module _ (file : List ℕ) (x : Sets) (n v : ℕ) (d : Within 24 x) where
   kind-write e =
       same refl (unmoved 24 x _ d (λ i. refl)) ∙ ap (λ (k : Kind). writtenAs part24 k (core file x) n v) (sym e)
 
-  -- a kind with a rule of its own
-  pub rule-write : (k : Kind) → kindAt part24 n ≡ k → stored k ≡ true → keptAs part24 k v ≡ v → {y : Sets}
-      → y ≡ mapPins 24 x (λ i. pinAfter (writtenTo part24 k n v i) (registersAt part24 file i)) → core (set file n v) y ≡ written part24 (core file x) n v
-  unfolding writtenAs
-  rule-write k e t q h =
-      same (ap (set file n) (sym q) ∙ ap (λ (b : Bool). cond b (set file n (keptAs part24 k v)) file) (sym t)) h
-      ∙ ap (λ (k : Kind). writtenAs part24 k (core file x) n v) (sym e)
+  -- a kind whose registers the code counts by some number, here the port's or the edge register's, and does to each pin what its rule says
+  module _ (k : Kind) (e : kindAt part24 n ≡ k) (at : ℕ) (same-at : at ≡ n - firstOf part24 k) (f : ℕ → ℕ → Happening)
+      (rule : (i : ℕ) → writtenTo part24 k n v i ≡ f (n - firstOf part24 k) i) {y : Sets} (q : y ≡ mapPins 24 x (λ i. pinAfter (f at i) (registersAt part24 file i))) where
+    by-kind : y ≡ mapPins 24 x (λ i. pinAfter (writtenTo part24 k n v i) (registersAt part24 file i))
+    by-kind = q ∙ map-ext 24 x _ _ (λ i h. cc (same-at, rule i))
 
--- a clear bit is not stored
-pub clear-write : (file : List ℕ) (x : Sets) (n v : ℕ) → kindAt part24 n ≡ Clear → {y : Sets}
-    → y ≡ mapPins 24 x (λ i. pinAfter (writtenTo part24 Clear n v i) (registersAt part24 file i)) → core file y ≡ written part24 (core file x) n v
-unfolding writtenAs
-clear-write file x n v e h = same refl h ∙ ap (λ (k : Kind). writtenAs part24 k (core file x) n v) (sym e)
+    -- it is stored
+    pub rule-write : stored k ≡ true → keptAs part24 k v ≡ v → core (set file n v) y ≡ written part24 (core file x) n v
+    unfolding writtenAs
+    rule-write t w =
+        same (ap (set file n) (sym w) ∙ ap (λ (b : Bool). cond b (set file n (keptAs part24 k v)) file) (sym t)) by-kind
+        ∙ ap (λ (k : Kind). writtenAs part24 k (core file x) n v) (sym e)
 
--- by the port's number, or the edge register's, as by the register's
-pub by-port : (x : Sets) (n : ℕ) → n < 128 → (k : Kind) → kindAt part24 n ≡ k → ported k ≡ true → (f : ℕ → ℕ → Pin → Pin) {y : Sets}
-    → y ≡ mapPins 24 x (f (n % 4)) → y ≡ mapPins 24 x (f (n - firstOf part24 k))
-by-port x n h k e t f q = q ∙ ap (λ (j : ℕ). mapPins 24 x (f j)) (port-at n h k e t)
-
-pub by-edge : (x : Sets) (n : ℕ) → n < 128 → kindAt part24 n ≡ Edge → (f : ℕ → ℕ → Pin → Pin) {y : Sets}
-    → y ≡ mapPins 24 x (f (n % 8)) → y ≡ mapPins 24 x (f (n - firstOf part24 Edge))
-by-edge x n h e f q = q ∙ ap (λ (j : ℕ). mapPins 24 x (f j)) (edge-at n h e)
+    -- a clear bit is not
+    pub unstored-write : stored k ≡ false → core file y ≡ written part24 (core file x) n v
+    unfolding writtenAs
+    unstored-write t =
+        same (ap (λ (b : Bool). cond b (set file n (keptAs part24 k v)) file) (sym t)) by-kind
+        ∙ ap (λ (k : Kind). writtenAs part24 k (core file x) n v) (sym e)

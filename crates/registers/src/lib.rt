@@ -21,44 +21,39 @@ pub fn group(file: &[u8; 128], first: usize) -> u64
     ports::join3(file[first + 0], file[first + 1], file[first + 2])
 }
 
-// The pins whose edge field asks for rising edges.
-fn rising(file: &[u8; 128]) -> u64
-    ensures { λ s. ⌜ ((i : ℕ) → i < 24 → bit s i ≡ risingBit (edgeByte part24 (now (file .entry)) i) i) ⌝ }
-{
-    ports::rising6(
-        file[0x60],
-        file[0x61],
-        file[0x62],
-        file[0x63],
-        file[0x64],
-        file[0x65],
-    )
+// The pins whose edge field asks for rising edges, and those whose field asks for falling ones.
+struct Edges {
+    rising: u64,
+    falling: u64,
 }
 
-// And those whose field asks for falling ones.
-fn falling(file: &[u8; 128]) -> u64
-    ensures { λ s. ⌜ ((i : ℕ) → i < 24 → bit s i ≡ fallingBit (edgeByte part24 (now (file .entry)) i) i) ⌝ }
+fn edge_fields(file: &[u8; 128]) -> Edges
+    ensures { λ s. ⌜ ((i : ℕ) → i < 24
+        → (bit (s .rising) i ≡ risingBit (edgeByte part24 (now (file .entry)) i) i) × (bit (s .falling) i ≡ fallingBit (edgeByte part24 (now (file .entry)) i) i)) ⌝ }
 {
-    ports::falling6(
-        file[0x60],
-        file[0x61],
-        file[0x62],
-        file[0x63],
-        file[0x64],
-        file[0x65],
-    )
+    let a = file[0x60];
+    let b = file[0x61];
+    let c = file[0x62];
+    let d = file[0x63];
+    let e = file[0x64];
+    let f = file[0x65];
+    Edges {
+        rising: ports::rising6(a, b, c, d, e, f),
+        falling: ports::falling6(a, b, c, d, e, f),
+    }
 }
 
 // The registers that events depend on.
 pub fn sources(file: &[u8; 128]) -> Sources
     ensures { λ v. ⌜ ((i : ℕ) → i < 24 → sourceAt v i ≡ registersAt part24 (now (file .entry)) i .source) × (v .configuration < 2 ^ 24) ⌝ }
 {
+    let edges = edge_fields(file);
     Sources {
         configuration: group(file, 0x0c),
         mask: group(file, 0x54),
         latch: group(file, 0x48),
-        rising: rising(file),
-        falling: falling(file),
+        rising: edges.rising,
+        falling: edges.falling,
     }
 }
 

@@ -11,6 +11,8 @@ fn write_header() {
 fn main() {
     let mut piece = [0u8; 16384];
     let mut out = [0u8; 327_686];
+    let mut file = [0u8; 128];
+    let mut held = [0u8; 33];
     let mut reader = logs::start();
     write_header();
     let mut turns = u64::MAX;
@@ -19,11 +21,11 @@ fn main() {
         let got = libc::read(0, &mut piece);
         let n = io::count(got, &piece);
         if n == 0 {
-            let end = logs::finish(reader, &mut out, 0);
+            let end = logs::finish(&mut file, &held, reader, &mut out, 0);
             io::write_all(STDOUT_FILENO, &out[0..end]);
             return;
         }
-        let fed = logs::feed(reader, &piece[0..n], &mut out, 0);
+        let fed = logs::feed(&mut file, &mut held, reader, &piece[0..n], &mut out, 0);
         let next = fed.reader;
         let end = fed.end;
         reader = next;

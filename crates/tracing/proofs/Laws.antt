@@ -9,6 +9,7 @@ use lib.ListN.{length}
 use Rattle.map.specs.Map.{part24}
 use Rattle.registers.specs.Registers.{drivenLow, drivenHigh, intAsserted}
 use Rattle.bus.specs.Device.{State, Outcome, out}
+use Rattle.bus.specs.Held.{stateOf}
 use Rattle.bus.specs.declared.Answer.{Answer}
 use Rattle.bus.specs.declared.Answer.the-variants.{Nothing, Refused}
 use Rattle.device.specs.Refusals.{stepped}
@@ -25,7 +26,7 @@ use Rattle.tracing.specs.Tracing.Session.{NoDevice, With}
 use Rattle.tracing.specs.Tracing.{Session, Traced, sessionOf, shownLine, told, unreadable, traced, Says}
 
 -- what is said may be said in another way
-pub says-as : {t u : Traced} {out : List ℕ} {at end : ℕ} {left : List ℕ} {d : Desk} → t ≡ u → Says t out at end left d → Says u out at end left d
+pub says-as : {t u : Traced} {out : List ℕ} {at end : ℕ} {left file : List ℕ} {d : Desk} → t ≡ u → Says t out at end left file d → Says u out at end left file d
 says-as e s = rw e at s
 
 pub told-line : (a : Answer) (s : State) (int : Bool) (low high : ℕ) → int ≡ intAsserted part24 (s .regs) → low ≡ drivenLow part24 (s .regs) → high ≡ drivenHigh part24 (s .regs)
@@ -33,24 +34,26 @@ pub told-line : (a : Answer) (s : State) (int : Bool) (low high : ℕ) → int �
 unfolding shownLine
 told-line a s int low high e f g = rw (e, f, g)
 
-module _ (d : Desk) (kind arg : ℕ) where
-  pub event-told : (o : Outcome) → d .has ≡ true → o ≡ stepped part24 (stateIn (d .device)) kind arg → told o ≡ traced (sessionOf d) (Event kind arg)
+module _ (file : List ℕ) (d : Desk) (kind arg : ℕ) where
+  pub event-told : (o : Outcome) → d .has ≡ true → o ≡ stepped part24 (stateOf file (d .rest)) kind arg → told o ≡ traced (sessionOf file d) (Event kind arg)
   unfolding traced
   event-told o h e = rw (h, e)
 
-  pub event-refused : d .has ≡ false → unreadable (sessionOf d) ≡ traced (sessionOf d) (Event kind arg)
+  pub event-refused : d .has ≡ false → unreadable (sessionOf file d) ≡ traced (sessionOf file d) (Event kind arg)
   unfolding traced
   event-refused h = rw h
 
+-- a line's numbers are never refused
+pub made-whole : {choice levels refusal : ℕ} {d : Device} → choice ≤ 3 → levels ≤ 0xff_ffff → MadeOf part24 choice levels refusal d → stateIn d ≡ powerOn part24 choice levels
+made-whole {choice} {levels} c l m = m .made (rw (le-leb choice 3 c, lt-ltb levels 16777216 (omega (arith, l))))
+
 module _ (x : Session) (said : Line) (line : List ℕ) (read : said ≡ lineOf line) where
-  pub device-told : {choice levels refusal : ℕ} {d : Device} → said ≡ MadeLine choice levels → MadeOf part24 choice levels refusal d
-      → told (out Nothing (stateIn d)) ≡ traced x (lineOf line)
+  pub device-fits : {choice levels : ℕ} → said ≡ MadeLine choice levels → (choice ≤ 3) × (levels ≤ 0xff_ffff)
+  device-fits {choice} {levels} e = line-makes line .makes choice levels (sym read ∙ e)
+
+  pub device-told : {choice levels : ℕ} → said ≡ MadeLine choice levels → told (out Nothing (powerOn part24 choice levels)) ≡ traced x (lineOf line)
   unfolding traced
-  device-told {choice} {levels} {refusal} {d} e m =
-      rw (← read, e, m .made (rw (le-leb choice 3 (fits .0), lt-ltb levels 16777216 (omega (arith, fits .1)))))
-    where
-      fits : (choice ≤ 3) × (levels ≤ 0xffffff)
-      fits = line-makes line .makes choice levels (sym read ∙ e)
+  device-told e = rw (← read, e)
 
   pub event-said : {kind arg : ℕ} → said ≡ Event kind arg → traced x (Event kind arg) ≡ traced x (lineOf line)
   event-said e = rw (← read, e)

@@ -8,7 +8,8 @@ use Rattle.registers.specs.Registers.{drivenLow, drivenHigh, intAsserted}
 use Rattle.bus.specs.Device.{State, Outcome, out}
 use Rattle.bus.specs.declared.Answer.the-variants.{Nothing}
 use Rattle.device.specs.Refusals.{stepped}
-use Rattle.device.specs.PowerOn.{stateIn, powerOn}
+use Rattle.bus.specs.Held.{stateOf}
+use Rattle.device.specs.PowerOn.{powerOn}
 use Rattle.text.specs.Text.{Wrote}
 use Rattle.lines.specs.declared.Line.{Line}
 use Rattle.lines.specs.declared.Line.the-variants.{Device, Event, Unreadable}
@@ -20,8 +21,8 @@ pub data Session : Type 0 where
   NoDevice : Session
   With : State → Session
 
-abbrev pub sessionOf : Desk → Session
-sessionOf d = cond (d .has) (With (stateIn (d .device))) NoDevice
+abbrev pub sessionOf : (file : List ℕ) → Desk → Session
+sessionOf file d = cond (d .has) (With (stateOf file (d .rest))) NoDevice
 
 -- the line that answers, and what there is after it
 pub record Traced : Type 0 where
@@ -47,7 +48,7 @@ traced x (Device choice levels) = told (out Nothing (powerOn part24 choice level
 traced NoDevice (Event kind arg) = unreadable NoDevice
 traced (With s) (Event kind arg) = told (stepped part24 s kind arg)
 
--- the line written from at on, and what stands on the desk after
-pub record Says (t : Traced) (out : List ℕ) (at end : ℕ) (left : List ℕ) (d : Desk) : Type 0 where
+-- the line written from at on, and the register file and the desk after
+pub record Says (t : Traced) (out : List ℕ) (at end : ℕ) (left file : List ℕ) (d : Desk) : Type 0 where
   pub says : Wrote out at (t .line) end left
-  pub goes-on : sessionOf d ≡ t .after
+  pub goes-on : sessionOf file d ≡ t .after

@@ -3,9 +3,8 @@ use mathlib.Core.Path.{refl, ap, _∙_}
 use Rattle.bus.specs.Device.{out, byteIn}
 use Rattle.bus.specs.Held.{stateOf}
 use Rattle.bus.specs.declared.Out.{Out}
-use Rattle.bus.specs.declared.Rest.{Rest}
 use Rattle.bus.specs.declared.Answer.the-variants.{Nak}
-use Rattle.bus.proofs.Stepping.{at-bus, no-byte}
+use Rattle.bus.proofs.Stepping.{at-bus, no-byte, told}
 use Rattle.bus.proofs.byte.Statement.{statement}
 use Rattle.bus.proofs.byte.Tie as tie
 
@@ -73,8 +72,7 @@ returns-6 c =
     let file = start .args .file .now in
     let s = stateOf file (start .args .r) in
     let at = c .before .before in
-    ap (λ (o : Out). out (o .answer) (stateOf file (o .rest))) (c .not-acked2 .ensures)
-    ∙ ap (λ (y : Rest). out Nak (stateOf file y)) (c .before .moved .ensures)
+    told file Nak (c .not-acked2 .ensures) (c .before .moved .ensures)
     ∙ no-byte s (start .args .b) (start .pre .bus-small) (at .if5 .left) (at .before .before .before .before .if1 .left)
     (at .before .before .before .if2 .left) (at .before .before .if3 .left) (at .before .if4 .left)
 

@@ -1,11 +1,9 @@
 use borrow.Author.Needs.{needs}
-use mathlib.Core.Path.{ap, _∙_}
+use mathlib.Core.Path.{_∙_}
 use borrow.Author.Tests.{eq-eqb, ne-eqb}
-use Rattle.bus.specs.Device.{out, byteIn}
-use Rattle.bus.specs.Held.{stateOf}
-use Rattle.bus.specs.declared.Out.{Out}
-use Rattle.bus.specs.declared.Rest.{Rest}
+use Rattle.bus.specs.Device.{byteIn}
 use Rattle.bus.specs.declared.Answer.the-variants.{Ack, Nak}
+use Rattle.bus.proofs.Stepping.{told}
 use Rattle.bus.proofs.byte_call.Statement.{statement}
 use Rattle.bus.proofs.byte_call.Tie as tie
 
@@ -19,9 +17,7 @@ returns : tie.Need-returns
 unfolding byteIn
 returns c =
     let at = c .before .before in
-    λ file.
-    ap (λ (o : Out). out (o .answer) (stateOf file (o .rest))) (c .acked .ensures)
-    ∙ ap (λ (y : Rest). out Ack (stateOf file y)) (c .before .moved .ensures) ∙ simp (eq-eqb _ _ (at .if1 .taken))
+    λ file. told file Ack (c .acked .ensures) (c .before .moved .ensures) ∙ simp (eq-eqb _ _ (at .if1 .taken))
 
 moved-requires-2 : tie.Need-moved-requires-2
 moved-requires-2 c κs = search needs
@@ -33,9 +29,7 @@ returns-2 : tie.Need-returns-2
 unfolding byteIn
 returns-2 c =
     let at = c .before .before in
-    λ file.
-    ap (λ (o : Out). out (o .answer) (stateOf file (o .rest))) (c .not-acked .ensures)
-    ∙ ap (λ (y : Rest). out Nak (stateOf file y)) (c .before .moved2 .ensures) ∙ simp (ne-eqb _ _ (at .if1 .left))
+    λ file. told file Nak (c .not-acked .ensures) (c .before .moved2 .ensures) ∙ simp (ne-eqb _ _ (at .if1 .left))
 
 pub byte-call-spec : {M : Type 1} → statement M
 byte-call-spec =

@@ -1,10 +1,8 @@
 use borrow.Author.Needs.{needs}
-use mathlib.Core.Path.{ap, sym, _∙_}
-use Rattle.bus.specs.Device.{out, byteIn}
-use Rattle.bus.specs.Held.{stateOf}
-use Rattle.bus.specs.declared.Out.{Out}
-use Rattle.bus.specs.declared.Rest.{Rest}
+use mathlib.Core.Path.{sym, _∙_}
+use Rattle.bus.specs.Device.{byteIn}
 use Rattle.bus.specs.declared.Answer.the-variants.{Ack, Nak}
+use Rattle.bus.proofs.Stepping.{told}
 use Rattle.bus.proofs.byte_chosen.Statement.{statement}
 use Rattle.bus.proofs.byte_chosen.Tie as tie
 
@@ -21,9 +19,7 @@ returns : tie.Need-returns
 unfolding byteIn
 returns c =
     let at = c .before .before in
-    λ file.
-    ap (λ (o : Out). out (o .answer) (stateOf file (o .rest))) (c .not-acked .ensures)
-    ∙ ap (λ (y : Rest). out Nak (stateOf file y)) (c .before .moved .ensures) ∙ simp (sym (at .before .is-reserved .ensures), at .if1 .taken)
+    λ file. told file Nak (c .not-acked .ensures) (c .before .moved .ensures) ∙ simp (sym (at .before .is-reserved .ensures), at .if1 .taken)
 
 moved-requires-2 : tie.Need-moved-requires-2
 moved-requires-2 c κs = search needs
@@ -35,9 +31,7 @@ returns-2 : tie.Need-returns-2
 unfolding byteIn
 returns-2 c =
     let at = c .before .before in
-    λ file.
-    ap (λ (o : Out). out (o .answer) (stateOf file (o .rest))) (c .acked .ensures)
-    ∙ ap (λ (y : Rest). out Ack (stateOf file y)) (c .before .moved2 .ensures) ∙ simp (sym (at .before .is-reserved .ensures), at .if1 .left)
+    λ file. told file Ack (c .acked .ensures) (c .before .moved2 .ensures) ∙ simp (sym (at .before .is-reserved .ensures), at .if1 .left)
 
 pub byte-chosen-spec : {M : Type 1} → statement M
 byte-chosen-spec =

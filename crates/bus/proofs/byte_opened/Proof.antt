@@ -1,11 +1,9 @@
 use borrow.Author.Needs.{needs}
-use mathlib.Core.Path.{ap, _∙_}
+use mathlib.Core.Path.{_∙_}
 use borrow.Author.Tests.{eq-eqb, ne-eqb}
-use Rattle.bus.specs.Device.{out, byteIn}
-use Rattle.bus.specs.Held.{stateOf}
-use Rattle.bus.specs.declared.Out.{Out}
-use Rattle.bus.specs.declared.Rest.{Rest}
+use Rattle.bus.specs.Device.{byteIn}
 use Rattle.bus.specs.declared.Answer.the-variants.{Ack, Nak}
+use Rattle.bus.proofs.Stepping.{told}
 use Rattle.bus.proofs.byte_opened.Statement.{statement}
 use Rattle.bus.proofs.byte_opened.Tie as tie
 
@@ -25,9 +23,7 @@ returns : tie.Need-returns
 unfolding byteIn
 returns c =
     let at = c .before .before in
-    λ file.
-    ap (λ (o : Out). out (o .answer) (stateOf file (o .rest))) (c .acked .ensures)
-    ∙ ap (λ (y : Rest). out Ack (stateOf file y)) (c .before .moved .ensures) ∙ simp (eq-eqb _ _ (at .if1 .taken))
+    λ file. told file Ack (c .acked .ensures) (c .before .moved .ensures) ∙ simp (eq-eqb _ _ (at .if1 .taken))
 
 add-if2 : tie.Need-add-if2
 add-if2 c = search needs
@@ -42,9 +38,7 @@ returns-2 : tie.Need-returns-2
 unfolding byteIn
 returns-2 c =
     let at = c .before .before in
-    λ file.
-    ap (λ (o : Out). out (o .answer) (stateOf file (o .rest))) (c .acked2 .ensures)
-    ∙ ap (λ (y : Rest). out Ack (stateOf file y)) (c .before .moved2 .ensures) ∙ simp (ne-eqb _ _ (at .before .if1 .left), eq-eqb _ _ (at .if2 .taken))
+    λ file. told file Ack (c .acked2 .ensures) (c .before .moved2 .ensures) ∙ simp (ne-eqb _ _ (at .before .if1 .left), eq-eqb _ _ (at .if2 .taken))
 
 moved-requires-3 : tie.Need-moved-requires-3
 moved-requires-3 c κs = search needs
@@ -56,9 +50,7 @@ returns-3 : tie.Need-returns-3
 unfolding byteIn
 returns-3 c =
     let at = c .before .before in
-    λ file.
-    ap (λ (o : Out). out (o .answer) (stateOf file (o .rest))) (c .acked3 .ensures)
-    ∙ ap (λ (y : Rest). out Ack (stateOf file y)) (c .before .moved3 .ensures) ∙ simp (ne-eqb _ _ (at .before .before .if1 .left), ne-eqb _ _ (at .before .if2 .left), eq-eqb _ _ (at .if3 .taken))
+    λ file. told file Ack (c .acked3 .ensures) (c .before .moved3 .ensures) ∙ simp (ne-eqb _ _ (at .before .before .if1 .left), ne-eqb _ _ (at .before .if2 .left), eq-eqb _ _ (at .if3 .taken))
 
 moved-requires-4 : tie.Need-moved-requires-4
 moved-requires-4 c κs = search needs
@@ -70,9 +62,7 @@ returns-4 : tie.Need-returns-4
 unfolding byteIn
 returns-4 c =
     let at = c .before .before in
-    λ file.
-    ap (λ (o : Out). out (o .answer) (stateOf file (o .rest))) (c .not-acked .ensures)
-    ∙ ap (λ (y : Rest). out Nak (stateOf file y)) (c .before .moved4 .ensures) ∙ simp (ne-eqb _ _ (at .before .before .if1 .left), ne-eqb _ _ (at .before .if2 .left), ne-eqb _ _ (at .if3 .left))
+    λ file. told file Nak (c .not-acked .ensures) (c .before .moved4 .ensures) ∙ simp (ne-eqb _ _ (at .before .before .if1 .left), ne-eqb _ _ (at .before .if2 .left), ne-eqb _ _ (at .if3 .left))
 
 pub byte-opened-spec : {M : Type 1} → statement M
 byte-opened-spec =

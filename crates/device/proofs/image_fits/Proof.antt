@@ -1,64 +1,16 @@
 use borrow.Author.Needs.{needs}
-use mathlib.Core.Path.{sym, _∙_}
-use borrow.Author.Tests.{lt-ltb, le-ltb, not-true, not-false}
-use Rattle.device.specs.Refusals.{imageFits}
+use mathlib.Core.Path.{_∙_}
+use Rattle.device.proofs.Images.{image-test}
 use Rattle.device.proofs.image_fits.Statement.{statement}
 use Rattle.device.proofs.image_fits.Tie as tie
 
-is-reserved-requires : tie.Need-is-reserved-requires
-is-reserved-requires c κs = search needs
+parts-fit-requires : tie.Need-parts-fit-requires
+parts-fit-requires c κs = search needs
 
 returns : tie.Need-returns
-unfolding imageFits
-returns c = simp (sym (c .before .is-reserved .ensures) ∙ c .if1 .taken)
-
-returns-2 : tie.Need-returns-2
-unfolding imageFits
-returns-2 c = simp (sym (c .before .before .is-reserved .ensures) ∙ c .before .if1 .left, le-ltb _ _ (c .if2 .taken))
-
-returns-3 : tie.Need-returns-3
-unfolding imageFits
-returns-3 c = simp (sym (c .before .before .before .is-reserved .ensures) ∙ c .before .before .if1 .left, lt-ltb _ _ (c .before .if2 .left), le-ltb _ _ (c .if3 .taken))
-
-sets-fit-requires : tie.Need-sets-fit-requires
-sets-fit-requires c κs = search needs
-
-returns-4 : tie.Need-returns-4
-unfolding imageFits
-returns-4 c =
-    let g = c .before .before in
-    simp (
-      sym (g .before .before .before .is-reserved .ensures) ∙ g .before .before .if1 .left,
-      lt-ltb _ _ (g .before .if2 .left),
-      lt-ltb _ _ (g .if3 .left),
-      sym (c .before .sets-fit .ensures) ∙ not-true _ (c .if4 .taken),
-    )
-
-file-fits-requires : tie.Need-file-fits-requires
-file-fits-requires c κs = search needs
-
-returns-5 : tie.Need-returns-5
-unfolding imageFits
-returns-5 c =
-    let h = c .before in
-    let g = h .before .before in
-    c .file-fits .ensures
-    ∙ simp (
-      sym (g .before .before .before .is-reserved .ensures) ∙ g .before .before .if1 .left,
-      lt-ltb _ _ (g .before .if2 .left),
-      lt-ltb _ _ (g .if3 .left),
-      sym (h .before .sets-fit .ensures) ∙ not-false _ (h .if4 .left),
-    )
+returns c =
+    let x = c .before .before .before .before .before .args in
+    c .parts-fit .ensures ∙ image-test (x .file .now) (x .r)
 
 pub image-fits-spec : {M : Type 1} → statement M
-image-fits-spec =
-    tie.close
-    (tie.spec
-    is-reserved-requires
-    returns
-    returns-2
-    returns-3
-    sets-fit-requires
-    returns-4
-    file-fits-requires
-    returns-5)
+image-fits-spec = tie.close (tie.spec parts-fit-requires returns)

@@ -1,8 +1,5 @@
 use borrow.Author.Needs.{needs}
-use mathlib.Core.Path.{_≡_}
-use lib.ListN.{length}
 use Rattle.logs.proofs.Feeding.{last-none, last-line, last-fits}
-use native.Mathlib.Omega.{arith}
 use Rattle.logs.proofs.finish.Statement.{statement}
 use Rattle.logs.proofs.finish.Tie as tie
 
@@ -13,13 +10,13 @@ part-line-start : tie.Need-part-line-start
 part-line-start c = search needs
 
 part-line-end : tie.Need-part-line-end
-part-line-end c = let s = c .before .before .before .before in let all : length (s .args .r .held) ≡ 33 = search needs in omega (arith, all, s .pre .0)
+part-line-end c = search needs
 
 returns : tie.Need-returns
 returns c =
-    let s = c .before .before .before .before .before .before in
-    let w = last-none (s .args .r) (c .if1 .taken) _ _ in
-    (w, last-fits (s .args .r) w (s .pre .1))
+    let s = c .before .before .before .before .before in
+    let w = last-none (s .args .file .now) (s .args .held .now) (s .args .r) (c .if1 .taken) _ _ in
+    (w, last-fits (s .args .file .now) (s .args .held .now) (s .args .r) w (s .pre .1))
 
 answer-line-requires : tie.Need-answer-line-requires
 answer-line-requires c κs = search needs
@@ -30,19 +27,10 @@ same-length c = search needs
 returns-2 : tie.Need-returns-2
 returns-2 c =
     let p = c .before .before in
-    let e = p .before .before in
-    let s = e .before .before .before .before .before .before in
-    let w = last-line (s .args .r) (e .if1 .left) (p .answer-line .ensures) in
-    (w, last-fits (s .args .r) w (s .pre .1))
+    let e = p .before .before .before in
+    let s = e .before .before .before .before .before in
+    let w = last-line (s .args .file .now) (s .args .held .now) (s .args .r) (e .if1 .left) (p .answer-line .ensures) in
+    (w, last-fits (s .args .file .now) (s .args .held .now) (s .args .r) w (s .pre .1))
 
 pub finish-spec : {M : Type 1} → statement M
-finish-spec =
-    tie.close
-    (tie.spec
-    sub-line
-    part-line-start
-    part-line-end
-    returns
-    answer-line-requires
-    same-length
-    returns-2)
+finish-spec = tie.close (tie.spec sub-line part-line-start part-line-end returns answer-line-requires same-length returns-2)

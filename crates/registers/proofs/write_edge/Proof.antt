@@ -1,15 +1,13 @@
 use borrow.Author.Needs.{needs}
-use mathlib.Core.Path.{refl, _∙_}
+use mathlib.Core.Path.{refl}
 use mathlib.Core.Bool.{_&&_}
 use Rattle.pins.specs.Pin.{edgeWritten}
-use Rattle.pins.specs.AllPins.{pinAt}
 use Rattle.pins.specs.OnePin.{pinAfter}
 use Rattle.pins.specs.OnePin.Happening.{EdgeWritten}
-use Rattle.pins.proofs.AllPins.{map-ext}
 use Rattle.ports.specs.Ports.{inEdge, risingBit, fallingBit}
 use Rattle.map.specs.Map.{part24}
 use Rattle.registers.specs.Registers.{registersAt}
-use Rattle.registers.proofs.Writing.{written-here}
+use Rattle.registers.proofs.Writing.{by-rule}
 use Rattle.registers.proofs.write_edge.Statement.{statement}
 use Rattle.registers.proofs.write_edge.Tie as tie
 
@@ -30,13 +28,10 @@ unfolding pinAfter
 returns c =
     let start = c .before .before .before .before in
     let x = start .args in
-    c .write-edge .ensures 24 (start .pre .1)
-    ∙ map-ext 24 (x .x) _ _ (λ i h. cc (
-      c .before .falling-at .ensures i,
-      c .before .before .rising-at .ensures i,
-      c .before .before .before .edge-set .ensures i,
-      written-here (inEdge (x .k) i) (λ t. edgeWritten (t && risingBit (x .v) i) (t && fallingBit (x .v) i)) (EdgeWritten (risingBit (x .v) i) (fallingBit (x .v) i)) (registersAt part24 (x .file .now) i) (pinAt (x .x) i) refl,
-    ))
+    by-rule (x .x) (registersAt part24 (x .file .now)) (inEdge (x .k)) (λ i t. edgeWritten (t && risingBit (x .v) i) (t && fallingBit (x .v) i)) _
+    (λ i. EdgeWritten (risingBit (x .v) i) (fallingBit (x .v) i)) _
+    (c .before .before .before .edge-set .ensures) (λ i h. cc (c .before .falling-at .ensures i, c .before .before .rising-at .ensures i))
+    (λ i p. refl) (c .write-edge .ensures 24 (start .pre .1))
 
 pub write-edge-spec : {M : Type 1} → statement M
 write-edge-spec =

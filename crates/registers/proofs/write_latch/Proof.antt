@@ -1,16 +1,14 @@
 use borrow.Author.Needs.{needs}
-use mathlib.Core.Path.{refl, _∙_}
+use mathlib.Core.Path.{refl}
 use mathlib.Core.Bool.{_&&_}
 use Rattle.pins.specs.Pin.{latchWritten}
-use Rattle.pins.specs.AllPins.{pinAt}
 use Rattle.pins.specs.OnePin.{pinAfter}
 use Rattle.pins.specs.OnePin.Happening.{LatchWritten}
-use Rattle.pins.proofs.AllPins.{map-ext}
 use Rattle.ports.specs.Ports.{inPort, portBit}
 use Rattle.map.specs.Map.{part24}
 use Rattle.map.specs.Map.Kind.{Configuration, Latch}
 use Rattle.registers.specs.Registers.{groupBit, registersAt}
-use Rattle.registers.proofs.Writing.{written-here}
+use Rattle.registers.proofs.Writing.{by-rule}
 use Rattle.registers.proofs.write_latch.Statement.{statement}
 use Rattle.registers.proofs.write_latch.Tie as tie
 
@@ -34,14 +32,12 @@ unfolding pinAfter
 returns c =
     let start = c .before .before .before .before .before in
     let x = start .args in
-    c .write-latch .ensures 24 (start .pre .1)
-    ∙ map-ext 24 (x .x) _ _ (λ i h. cc (
-      c .before .at-port .ensures i,
-      c .before .before .port-set .ensures i,
-      c .before .before .before .group2 .ensures .0 i h,
-      c .before .before .before .before .group .ensures .0 i h,
-      written-here (inPort (x .k) i) (λ t. latchWritten (groupBit part24 (x .file .now) Configuration i) (groupBit part24 (x .file .now) Latch i) (t && portBit (x .v) i)) (LatchWritten (portBit (x .v) i)) (registersAt part24 (x .file .now) i) (pinAt (x .x) i) refl,
-    ))
+    by-rule (x .x) (registersAt part24 (x .file .now)) (inPort (x .k))
+    (λ i t. latchWritten (groupBit part24 (x .file .now) Configuration i) (groupBit part24 (x .file .now) Latch i) (t && portBit (x .v) i)) _
+    (λ i. LatchWritten (portBit (x .v) i)) _
+    (c .before .before .port-set .ensures)
+    (λ i h. cc (c .before .at-port .ensures i, c .before .before .before .group2 .ensures .0 i h, c .before .before .before .before .group .ensures .0 i h))
+    (λ i p. refl) (c .write-latch .ensures 24 (start .pre .1))
 
 pub write-latch-spec : {M : Type 1} → statement M
 write-latch-spec =

@@ -1,14 +1,13 @@
 use borrow.Author.Needs.{needs}
 use mathlib.Core.Path.{_≡_, refl}
 use mathlib.Core.Bool.{cond}
-use Rattle.pins.specs.OnePin.{pinAfter}
 use Rattle.pins.specs.OnePin.Happening.{ClearWritten, MaskWritten, EdgeWritten, LatchWritten, ConfigurationWritten, Elsewhere}
 use Rattle.ports.specs.Ports.{inPort, portBit, inEdge, risingBit, fallingBit}
 use Rattle.map.specs.Map.{part24, kindAt}
-use Rattle.map.specs.Map.Kind.{Configuration, Latch, Mask, PortKind, Edge, Clear}
-use Rattle.map.proofs.Rows.{kind-is}
-use Rattle.registers.specs.Registers.{registersAt, writtenTo}
-use Rattle.registers.proofs.Writing.{idle-write, kept-write, kind-write, rule-write, clear-write, by-port, by-edge}
+use Rattle.map.specs.Map.Kind.{Configuration, Latch, Mask, Edge, Clear}
+use Rattle.map.proofs.Rows.{kind-is, port-at, edge-at}
+use Rattle.registers.specs.Registers.{writtenTo}
+use Rattle.registers.proofs.Writing.{idle-write, kept-write, kind-write, rule-write, unstored-write}
 use native.Mathlib.Omega.{arith}
 use Rattle.registers.proofs.write_register.Statement.{statement}
 use Rattle.registers.proofs.write_register.Tie as tie
@@ -20,9 +19,7 @@ returns : tie.Need-returns
 returns c =
     let start = c .before .before in
     let x = start .args in
-    let n = x .n in
-    let file = x .file .now in
-    idle-write file (x .x) n (x .v) (start .pre .1) (omega arith)
+    idle-write (x .file .now) (x .x) (x .n) (x .v) (start .pre .1) (omega arith)
 
 write-configuration-requires : tie.Need-write-configuration-requires
 write-configuration-requires c κs = search needs
@@ -35,11 +32,9 @@ unfolding writtenTo
 returns-2 c =
     let start = c .before .before .before .before .before in
     let x = start .args in
-    let n = x .n in
-    let file = x .file .now in
-    let e : kindAt part24 n ≡ Configuration = kind-is (kindAt part24 n) 4 cc in
-    rule-write file (x .x) n (x .v) (start .pre .1) Configuration e refl refl
-    (by-port (x .x) n (start .pre .0) Configuration e refl (λ k i. pinAfter (cond (inPort k i) (ConfigurationWritten (portBit (x .v) i)) Elsewhere) (registersAt part24 file i)) (c .write-configuration .ensures))
+    let e : kindAt part24 (x .n) ≡ Configuration = kind-is (kindAt part24 (x .n)) 4 cc in
+    rule-write (x .file .now) (x .x) (x .n) (x .v) (start .pre .1) Configuration e _ (port-at (x .n) (start .pre .0) Configuration e refl)
+    (λ k i. cond (inPort k i) (ConfigurationWritten (portBit (x .v) i)) Elsewhere) (λ i. refl) (c .write-configuration .ensures) refl refl
 
 write-latch-requires : tie.Need-write-latch-requires
 write-latch-requires c κs = search needs
@@ -52,11 +47,9 @@ unfolding writtenTo
 returns-3 c =
     let start = c .before .before .before .before .before .before in
     let x = start .args in
-    let n = x .n in
-    let file = x .file .now in
-    let e : kindAt part24 n ≡ Latch = kind-is (kindAt part24 n) 5 cc in
-    rule-write file (x .x) n (x .v) (start .pre .1) Latch e refl refl
-    (by-port (x .x) n (start .pre .0) Latch e refl (λ k i. pinAfter (cond (inPort k i) (LatchWritten (portBit (x .v) i)) Elsewhere) (registersAt part24 file i)) (c .write-latch .ensures))
+    let e : kindAt part24 (x .n) ≡ Latch = kind-is (kindAt part24 (x .n)) 5 cc in
+    rule-write (x .file .now) (x .x) (x .n) (x .v) (start .pre .1) Latch e _ (port-at (x .n) (start .pre .0) Latch e refl)
+    (λ k i. cond (inPort k i) (LatchWritten (portBit (x .v) i)) Elsewhere) (λ i. refl) (c .write-latch .ensures) refl refl
 
 write-mask-requires : tie.Need-write-mask-requires
 write-mask-requires c κs = search needs
@@ -69,11 +62,9 @@ unfolding writtenTo
 returns-4 c =
     let start = c .before .before .before .before .before .before .before in
     let x = start .args in
-    let n = x .n in
-    let file = x .file .now in
-    let e : kindAt part24 n ≡ Mask = kind-is (kindAt part24 n) 6 cc in
-    rule-write file (x .x) n (x .v) (start .pre .1) Mask e refl refl
-    (by-port (x .x) n (start .pre .0) Mask e refl (λ k i. pinAfter (cond (inPort k i) (MaskWritten (portBit (x .v) i)) Elsewhere) (registersAt part24 file i)) (c .write-mask .ensures))
+    let e : kindAt part24 (x .n) ≡ Mask = kind-is (kindAt part24 (x .n)) 6 cc in
+    rule-write (x .file .now) (x .x) (x .n) (x .v) (start .pre .1) Mask e _ (port-at (x .n) (start .pre .0) Mask e refl)
+    (λ k i. cond (inPort k i) (MaskWritten (portBit (x .v) i)) Elsewhere) (λ i. refl) (c .write-mask .ensures) refl refl
 
 element-write-file-4 : tie.Need-element-write-file-4
 element-write-file-4 c = search needs
@@ -82,10 +73,7 @@ returns-5 : tie.Need-returns-5
 returns-5 c =
     let start = c .before .before .before .before .before .before in
     let x = start .args in
-    let n = x .n in
-    let file = x .file .now in
-    let e : kindAt part24 n ≡ PortKind = kind-is (kindAt part24 n) 7 cc in
-    kind-write file (x .x) n (x .v) (start .pre .1) e
+    kind-write (x .file .now) (x .x) (x .n) (x .v) (start .pre .1) (kind-is (kindAt part24 (x .n)) 7 cc)
 
 write-edge-requires : tie.Need-write-edge-requires
 write-edge-requires c κs = search needs
@@ -98,11 +86,9 @@ unfolding writtenTo
 returns-6 c =
     let start = c .before .before .before .before .before .before .before .before .before in
     let x = start .args in
-    let n = x .n in
-    let file = x .file .now in
-    let e : kindAt part24 n ≡ Edge = kind-is (kindAt part24 n) 8 cc in
-    rule-write file (x .x) n (x .v) (start .pre .1) Edge e refl refl
-    (by-edge (x .x) n (start .pre .0) e (λ k i. pinAfter (cond (inEdge k i) (EdgeWritten (risingBit (x .v) i) (fallingBit (x .v) i)) Elsewhere) (registersAt part24 file i)) (c .write-edge .ensures))
+    let e : kindAt part24 (x .n) ≡ Edge = kind-is (kindAt part24 (x .n)) 8 cc in
+    rule-write (x .file .now) (x .x) (x .n) (x .v) (start .pre .1) Edge e _ (edge-at (x .n) (start .pre .0) e)
+    (λ k i. cond (inEdge k i) (EdgeWritten (risingBit (x .v) i) (fallingBit (x .v) i)) Elsewhere) (λ i. refl) (c .write-edge .ensures) refl refl
 
 write-clear-requires : tie.Need-write-clear-requires
 write-clear-requires c κs = search needs
@@ -112,11 +98,9 @@ unfolding writtenTo
 returns-7 c =
     let start = c .before .before .before .before .before .before .before .before .before .before in
     let x = start .args in
-    let n = x .n in
-    let file = x .file .now in
-    let e : kindAt part24 n ≡ Clear = kind-is (kindAt part24 n) 9 cc in
-    clear-write file (x .x) n (x .v) e
-    (by-port (x .x) n (start .pre .0) Clear e refl (λ k i. pinAfter (cond (inPort k i) (ClearWritten (portBit (x .v) i)) Elsewhere) (registersAt part24 file i)) (c .write-clear .ensures))
+    let e : kindAt part24 (x .n) ≡ Clear = kind-is (kindAt part24 (x .n)) 9 cc in
+    unstored-write (x .file .now) (x .x) (x .n) (x .v) (start .pre .1) Clear e _ (port-at (x .n) (start .pre .0) Clear e refl)
+    (λ k i. cond (inPort k i) (ClearWritten (portBit (x .v) i)) Elsewhere) (λ i. refl) (c .write-clear .ensures) refl
 
 element-write-file-6 : tie.Need-element-write-file-6
 element-write-file-6 c = search needs
@@ -125,9 +109,7 @@ returns-8 : tie.Need-returns-8
 returns-8 c =
     let start = c .before .before .before .before .before .before .before .before in
     let x = start .args in
-    let n = x .n in
-    let file = x .file .now in
-    kept-write file (x .x) n (x .v) (start .pre .1) (omega arith)
+    kept-write (x .file .now) (x .x) (x .n) (x .v) (start .pre .1) (omega arith)
 
 pub write-register-spec : {M : Type 1} → statement M
 write-register-spec =

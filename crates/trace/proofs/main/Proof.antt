@@ -1,15 +1,17 @@
 use borrow.Author.Needs.{needs}
 use mathlib.Core.Path.{_≡_}
 use Prim.Native.Nat.{ℕ, _≤_}
+use native.Mathlib.Omega.{arith}
 use lib.ListN.{length, length-replicate}
 use Rattle.trace.proofs.main.Statement.{statement}
 use Rattle.trace.proofs.main.Tie as tie
 
 abbrev Inv-loop : tie.InvT-loop
-Inv-loop piece₀ out₀ reader₀ turns₀ piece out reader turns = (length piece ≡ 16384) × (length out ≡ 327686) × (reader .len ≤ 33)
+Inv-loop piece₀ out₀ file₀ held₀ reader₀ turns₀ piece out file held reader turns =
+    (length piece ≡ 16384) × (length out ≡ 327686) × (reader .len ≤ 33) × (length held ≡ 33)
 
 abbrev μ-loop : tie.MeasureT-loop
-μ-loop piece₀ out₀ reader₀ turns₀ piece out reader turns = turns
+μ-loop piece₀ out₀ file₀ held₀ reader₀ turns₀ piece out file held reader turns = turns
 
 start-requires : tie.Need-start-requires Inv-loop μ-loop
 start-requires c κs = search needs
@@ -18,7 +20,9 @@ write-header-requires : tie.Need-write-header-requires Inv-loop μ-loop
 write-header-requires c κs = search needs
 
 loop-holds : tie.Need-loop-holds Inv-loop μ-loop
-loop-holds c = (length-replicate {A = ℕ} 16384 0, length-replicate {A = ℕ} 327686 0, c .before .start .ensures .1)
+loop-holds c =
+    let none = c .before .start .ensures .1 in
+    (length-replicate {A = ℕ} 16384 0, length-replicate {A = ℕ} 327686 0, omega (arith, none), length-replicate {A = ℕ} 33 0)
 
 sub-turns : tie.Need-sub-turns Inv-loop μ-loop
 sub-turns c = search needs
@@ -37,6 +41,9 @@ count-requires c κs = search needs
 
 slice-aggregate-finish : tie.Need-slice-aggregate-finish Inv-loop μ-loop
 slice-aggregate-finish c = search needs
+
+slice-aggregate-finish-2 : tie.Need-slice-aggregate-finish-2 Inv-loop μ-loop
+slice-aggregate-finish-2 c = search needs
 
 finish-requires : tie.Need-finish-requires Inv-loop μ-loop
 finish-requires c κs = search needs
@@ -107,6 +114,7 @@ main-spec =
     slice-aggregate-count
     count-requires
     slice-aggregate-finish
+    slice-aggregate-finish-2
     finish-requires
     sub-write-all
     part-write-all-start

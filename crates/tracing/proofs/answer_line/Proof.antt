@@ -1,5 +1,6 @@
 use borrow.Author.Needs.{needs}
-use Rattle.tracing.proofs.Laws.{says-as, device-told, event-said, unreadable-said}
+use Rattle.tracing.specs.Tracing.{sessionOf}
+use Rattle.tracing.proofs.Laws.{says-as, device-fits, device-told, event-said, unreadable-said}
 use Rattle.tracing.proofs.answer_line.Statement.{statement}
 use Rattle.tracing.proofs.answer_line.Tie as tie
 
@@ -9,11 +10,13 @@ read-requires c κs = search needs
 enum-known-said : tie.Need-enum-known-said
 enum-known-said c = search needs
 
-power-on-requires : tie.Need-power-on-requires
-power-on-requires c κs = search needs
-
-tell-requires : tie.Need-tell-requires
-tell-requires c κs = search needs
+make-requires : tie.Need-make-requires
+make-requires c κs =
+    let s = c .before .before .before in
+    let r = s .before .before in
+    let x = r .before .before .before .args in
+    let fits = device-fits (sessionOf (x .file .now) (x .desk)) _ (x .line .now) (r .read .ensures) (s .said .given .1) in
+    (search needs, fits .0, fits .1)
 
 enum-known-said-2 : tie.Need-enum-known-said-2
 enum-known-said-2 c = search needs
@@ -31,35 +34,29 @@ same-length : tie.Need-same-length
 same-length c = search needs
 
 returns : tie.Need-returns
-returns c = let p = c .before .before in let m = p .before .before .before in let s = m .before .before in says-as (device-told _ _ _ (s .before .before .read .ensures) (s .said .given .1) (m .power-on .ensures)) (p .tell .ensures)
+returns c =
+    let p = c .before .before in
+    let s = p .before .before .before .before in
+    says-as (device-told _ _ _ (s .before .before .read .ensures) (s .said .given .1)) (p .make .ensures)
 
 same-length-2 : tie.Need-same-length-2
 same-length-2 c = search needs
 
 returns-2 : tie.Need-returns-2
-returns-2 c = let p = c .before .before in let s = p .before .before .before in says-as (event-said _ _ _ (s .before .before .read .ensures) (s .said2 .given .1)) (p .event .ensures)
+returns-2 c =
+    let p = c .before .before in
+    let s = p .before .before .before .before in
+    says-as (event-said _ _ _ (s .before .before .read .ensures) (s .said2 .given .1)) (p .event .ensures)
 
 same-length-3 : tie.Need-same-length-3
 same-length-3 c = search needs
 
 returns-3 : tie.Need-returns-3
-returns-3 c = let p = c .before .before in let s = p .before .before in says-as (unreadable-said _ _ _ (s .before .before .read .ensures) (s .enum-told .given .1)) (p .refuse .ensures)
+returns-3 c =
+    let p = c .before .before in
+    let s = p .before .before in
+    let r = s .before .before in
+    says-as (unreadable-said _ _ _ (r .read .ensures) (s .enum-told .given .1)) (p .refuse .ensures (r .before .before .before .args .file .now))
 
 pub answer-line-spec : {M : Type 1} → statement M
-answer-line-spec =
-    tie.close
-    (tie.spec
-    read-requires
-    enum-known-said
-    power-on-requires
-    tell-requires
-    enum-known-said-2
-    event-requires
-    enum-told
-    refuse-requires
-    same-length
-    returns
-    same-length-2
-    returns-2
-    same-length-3
-    returns-3)
+answer-line-spec = tie.close (tie.spec read-requires enum-known-said make-requires enum-known-said-2 event-requires enum-told refuse-requires same-length returns same-length-2 returns-2 same-length-3 returns-3)

@@ -13,7 +13,12 @@ same-length : tie.Need-same-length
 same-length c = search needs
 
 returns : tie.Need-returns
-returns c = let p = c .before .before in let s = p .before .before .before in says-as (event-told _ _ _ _ (s .before .before .if1 .taken) (s .step .ensures)) (p .tell .ensures)
+returns c =
+    let p = c .before .before in
+    let s = p .before .before .before .before in
+    let has = s .before .before .before in
+    let x = has .before .before .args in
+    says-as (event-told (x .file .now) (x .desk) (x .kind) (x .arg) _ (has .if1 .taken) (s .step .ensures)) (p .tell .ensures)
 
 refuse-requires : tie.Need-refuse-requires
 refuse-requires c κs = search needs
@@ -22,16 +27,11 @@ same-length-2 : tie.Need-same-length-2
 same-length-2 c = search needs
 
 returns-2 : tie.Need-returns-2
-returns-2 c = let p = c .before .before in says-as (event-refused _ _ _ (p .before .before .if1 .left)) (p .refuse .ensures)
+returns-2 c =
+    let p = c .before .before in
+    let none = p .before .before in
+    let x = none .before .before .args in
+    says-as (event-refused (x .file .now) (x .desk) (x .kind) (x .arg) (none .if1 .left)) (p .refuse .ensures (x .file .now))
 
 pub event-spec : {M : Type 1} → statement M
-event-spec =
-    tie.close
-    (tie.spec
-    step-requires
-    tell-requires
-    same-length
-    returns
-    refuse-requires
-    same-length-2
-    returns-2)
+event-spec = tie.close (tie.spec step-requires tell-requires same-length returns refuse-requires same-length-2 returns-2)

@@ -1,6 +1,7 @@
 use borrow.Author.Needs.{needs}
 use mathlib.Core.Path.{refl}
 use Rattle.text.proofs.Laws.{wrote-as}
+use Rattle.bus.specs.Held.{stateOf}
 use Rattle.tracing.proofs.Laws.{told-line}
 use Rattle.tracing.proofs.tell.Statement.{statement}
 use Rattle.tracing.proofs.tell.Tie as tie
@@ -21,9 +22,17 @@ same-length : tie.Need-same-length
 same-length c = search needs
 
 returns : tie.Need-returns
-returns c = let p = c .before .before in let h = p .before .before in record { says = wrote-as (told-line _ _ _ _ _ (h .before .before .int .ensures) (h .before .low .ensures) (h .high .ensures)) (p .put-line .ensures); goes-on = refl }
+returns c =
+    let p = c .before .before in
+    let h = p .before .before in
+    let x = h .before .before .before .before .args in
+    record {
+      says =
+          wrote-as
+          (told-line (x .answer) (stateOf (x .file .now) (x .rest)) _ _ _ (h .before .before .int .ensures) (h .before .low .ensures (x .rest .sets)) (h .high .ensures (x .rest .sets)))
+          (p .put-line .ensures);
+      goes-on = refl;
+    }
 
 pub tell-spec : {M : Type 1} → statement M
-tell-spec =
-    tie.close
-    (tie.spec int-requires low-requires high-requires put-line-requires same-length returns)
+tell-spec = tie.close (tie.spec int-requires low-requires high-requires put-line-requires same-length returns)

@@ -1,0 +1,240 @@
+/* The library and the peer on the same events in one process, taking turns, best of seven each; then the planner.
+ * Prints lines `step`, `plan`: nanoseconds an event or a plan of the library, of the peer, and their ratio. */
+#include "mix.h"
+#include "peer.h"
+
+#include <ghixramel.h>
+#include <libc.h>
+
+enum { EVENTS = 100000, TIMES_OVER = 10, PAIRS = 10000, ROUNDS = 7, SEED = 1, CHOICE = 2, LEVELS = 0x00F0F0 };
+
+struct pair {
+    uint8_t start[GHIXRAMEL_SETTING_BYTES], goal[GHIXRAMEL_SETTING_BYTES];
+};
+
+static struct event events[EVENTS];
+static struct pair pairs[PAIRS];
+
+_Noreturn static void differ(const char *what, size_t place)
+{
+    dprintf(STANDARD_ERROR, "bench: %s differ at %lu\n", what, (unsigned long)place);
+    exit(1);
+}
+
+static void same(uint64_t ours, uint64_t peers, const char *what, size_t place)
+{
+    if (ours != peers)
+        differ(what, place);
+}
+
+static int64_t now(void)
+{
+    struct timespec time;
+    clock_gettime(CLOCK_MONOTONIC, &time);
+    return (int64_t)time.tv_sec * 1000000000 + time.tv_nsec;
+}
+
+/* A best of 0 is none yet. */
+static void keep_best(int64_t *best, int64_t took)
+{
+    if (*best == 0 || took < *best)
+        *best = took;
+}
+
+static void same_state(const struct ghixramel *ours, const struct peer *peer, size_t place)
+{
+    same(ours->pins[0], peer->level, "levels", place);
+    same(ours->pins[1], peer->reference, "references", place);
+    same(ours->pins[2], peer->held, "held marks", place);
+    same(ours->pins[3], peer->edge, "edge marks", place);
+    same(ours->bus[0], peer->pointer, "pointers", place);
+    same(ours->bus[1], peer->bus, "bus states", place);
+    same(ours->bus[2], peer->choice, "address choices", place);
+    if (memcmp(ours->registers, peer->registers, sizeof peer->registers) != 0)
+        differ("registers", place);
+}
+
+static void same_outputs(const struct ghixramel *ours, const struct peer *peer, size_t place)
+{
+    uint64_t our_drives[2], peer_drive[2];
+    uint8_t asserted[1];
+    same(ghixramel_drives(ours, our_drives), 0, "refusals of drives", place);
+    same(ghixramel_int(ours, asserted), 0, "refusals of INT", place);
+    peer_drives(peer, peer_drive);
+    same(our_drives[0], peer_drive[0], "pins driven low", place);
+    same(our_drives[1], peer_drive[1], "pins driven high", place);
+    same(asserted[0], (uint64_t)peer_int(peer), "INT lines", place);
+}
+
+/* Untimed: answers, state and outputs after every event. */
+static void check_steps(void)
+{
+    struct ghixramel ours;
+    struct peer peer;
+    same(ghixramel_power_on(&ours, CHOICE, LEVELS), peer_power_on(&peer, CHOICE, LEVELS), "devices made", 0);
+    for (size_t i = 0; i < EVENTS; i++) {
+        uint8_t our_answer[2] = {0, 0}, peer_answer[2] = {0, 0};
+        uint32_t refused = ghixramel_step(&ours, events[i].kind, events[i].argument, our_answer);
+        same(refused, peer_step(&peer, events[i].kind, events[i].argument, peer_answer), "refusals", i);
+        same(our_answer[0], peer_answer[0], "answers", i);
+        same(our_answer[1], peer_answer[1], "bytes read", i);
+        same_state(&ours, &peer, i);
+        same_outputs(&ours, &peer, i);
+    }
+}
+
+/* Answers are summed, so that each is used. */
+static int64_t time_library(struct ghixramel *device, uint64_t *sum)
+{
+    uint8_t answer[2] = {0, 0};
+    ghixramel_power_on(device, CHOICE, LEVELS);
+    int64_t began = now();
+    for (int times = 0; times < TIMES_OVER; times++)
+        for (size_t i = 0; i < EVENTS; i++) {
+            *sum += ghixramel_step(device, events[i].kind, events[i].argument, answer);
+            *sum += answer[0] + answer[1];
+        }
+    return now() - began;
+}
+
+static int64_t time_peer(struct peer *device, uint64_t *sum)
+{
+    uint8_t answer[2] = {0, 0};
+    peer_power_on(device, CHOICE, LEVELS);
+    int64_t began = now();
+    for (int times = 0; times < TIMES_OVER; times++)
+        for (size_t i = 0; i < EVENTS; i++) {
+            *sum += peer_step(device, events[i].kind, events[i].argument, answer);
+            *sum += answer[0] + answer[1];
+        }
+    return now() - began;
+}
+
+static void bench_steps(void)
+{
+    struct ghixramel ours;
+    struct peer peer;
+    int64_t our_best = 0, peer_best = 0;
+    for (size_t round = 0; round < ROUNDS; round++) {
+        uint64_t our_sum = 0, peer_sum = 0;
+        keep_best(&our_best, time_library(&ours, &our_sum));
+        keep_best(&peer_best, time_peer(&peer, &peer_sum));
+        same(our_sum, peer_sum, "sums of answers", round);
+        same_state(&ours, &peer, round);
+    }
+    double steps = (double)EVENTS * TIMES_OVER;
+    printf("step\t%.2f\t%.2f\t%.2f\n", (double)our_best / steps, (double)peer_best / steps, (double)our_best / (double)peer_best);
+}
+
+static void make_setting(uint8_t setting[GHIXRAMEL_SETTING_BYTES], uint64_t *random)
+{
+    for (int i = 0; i < GHIXRAMEL_SETTING_BYTES; i++)
+        setting[i] = (uint8_t)random_below(random, i == 6 ? 8 : 256);
+}
+
+/* One to three bits of the outputs, the configuration and the pins' kinds, now and then one of 5C. */
+static void move_few_pins(uint8_t setting[GHIXRAMEL_SETTING_BYTES], uint64_t *random)
+{
+    for (uint32_t moves = 1 + random_below(random, 3); moves > 0; moves--) {
+        uint32_t place = random_below(random, GHIXRAMEL_SETTING_BYTES);
+        setting[place] ^= (uint8_t)(1u << random_below(random, place == 6 ? 3 : 8));
+    }
+}
+
+/* Every other goal is random, the others are a few pins away from their start. */
+static void make_pairs(void)
+{
+    uint64_t random = SEED;
+    for (size_t i = 0; i < PAIRS; i++) {
+        make_setting(pairs[i].start, &random);
+        make_setting(pairs[i].goal, &random);
+        if (i % 2 == 0) {
+            memcpy(pairs[i].goal, pairs[i].start, GHIXRAMEL_SETTING_BYTES);
+            move_few_pins(pairs[i].goal, &random);
+        }
+    }
+}
+
+static uint32_t plan(const struct pair *pair, uint8_t buffer[GHIXRAMEL_PLAN_BYTES], uint64_t writes[1])
+{
+    return ghixramel_plan(pair->start, GHIXRAMEL_SETTING_BYTES, pair->goal, GHIXRAMEL_SETTING_BYTES, buffer, GHIXRAMEL_PLAN_BYTES, writes);
+}
+
+static void write_setting(uint8_t setting[GHIXRAMEL_SETTING_BYTES], uint8_t number, uint8_t value)
+{
+    static const uint8_t numbers[GHIXRAMEL_SETTING_BYTES] = {0x04, 0x05, 0x06, 0x0C, 0x0D, 0x0E, 0x5C, 0x70, 0x71, 0x72};
+    for (int i = 0; i < GHIXRAMEL_SETTING_BYTES; i++)
+        if (numbers[i] == number)
+            setting[i] = value;
+}
+
+/* Untimed: each plan leads to its goal, or there is none. That it is quiet is proved, and judged by the model elsewhere. */
+static void check_plans(void)
+{
+    for (size_t i = 0; i < PAIRS; i++) {
+        uint8_t buffer[GHIXRAMEL_PLAN_BYTES], reached[GHIXRAMEL_SETTING_BYTES];
+        uint64_t writes[1] = {0};
+        uint32_t refused = plan(&pairs[i], buffer, writes);
+        if (refused == GHIXRAMEL_NO_QUIET_WAY)
+            continue;
+        same(refused, GHIXRAMEL_DONE, "refusals of plans", i);
+        memcpy(reached, pairs[i].start, sizeof reached);
+        for (uint64_t n = 0; n < writes[0]; n++)
+            write_setting(reached, buffer[2 * n], buffer[2 * n + 1]);
+        if (memcmp(reached, pairs[i].goal, sizeof reached) != 0)
+            differ("goal and setting reached", i);
+    }
+}
+
+static int64_t time_plans(uint64_t *sum)
+{
+    uint8_t buffer[GHIXRAMEL_PLAN_BYTES] = {0};
+    uint64_t writes[1] = {0};
+    int64_t began = now();
+    for (size_t i = 0; i < PAIRS; i++) {
+        *sum += plan(&pairs[i], buffer, writes);
+        *sum += writes[0] + buffer[0];
+    }
+    return now() - began;
+}
+
+static void bench_plans(void)
+{
+    int64_t best = 0;
+    uint64_t sums[ROUNDS] = {0};
+    for (size_t round = 0; round < ROUNDS; round++) {
+        keep_best(&best, time_plans(&sums[round]));
+        same(sums[round], sums[0], "sums of plans", round);
+    }
+    printf("plan\t%.2f\t-\t-\n", (double)best / PAIRS);
+}
+
+static void make_events(void)
+{
+    struct mix mix;
+    mix_begin(&mix, SEED, CHOICE, LEVELS);
+    for (size_t i = 0; i < EVENTS; i++)
+        events[i] = mix_next(&mix);
+}
+
+/* The mix, so that a reader sees what was timed. */
+static void tell_mix(void)
+{
+    uint32_t counts[6] = {0};
+    for (size_t i = 0; i < EVENTS; i++)
+        counts[events[i].kind]++;
+    dprintf(STANDARD_ERROR, "bench: of %d events %u START, %u STOP, %u bytes, %u fetches, %u levels, %u resets\n", EVENTS, counts[0],
+            counts[1], counts[2], counts[3], counts[4], counts[5]);
+}
+
+int main(void)
+{
+    make_events();
+    tell_mix();
+    check_steps();
+    bench_steps();
+    make_pairs();
+    check_plans();
+    bench_plans();
+    return 0;
+}

@@ -1,0 +1,105 @@
+/* One step of the peer on a state image a line: registers, four pin sets, pointer, bus state, address choice, kind and
+ * argument, in lowercase hex parted by tabs. Answered as the trace program does, then the image after. */
+#include "peer_text.h"
+
+enum { REGISTERS = 128, LINE_BYTES = 359, MOST_PROBE_BYTES = 400 };
+
+struct probe {
+    struct peer device;
+    uint32_t kind;
+    uint64_t argument;
+};
+
+/* A field with its tab, or the line's end, after it; NULL once something was wrong. */
+static const uint8_t *field(const uint8_t *at, size_t digits, uint64_t *value)
+{
+    if (!at || !read_hex(at, digits, value) || (at[digits] != '\t' && at[digits] != '\n'))
+        return NULL;
+    return at + digits + 1;
+}
+
+static const uint8_t *registers_field(const uint8_t *at, uint8_t registers[REGISTERS])
+{
+    uint64_t value;
+    for (int i = 0; i < REGISTERS; i++, at += 2) {
+        if (!read_hex(at, 2, &value))
+            return NULL;
+        registers[i] = (uint8_t)value;
+    }
+    return *at == '\t' ? at + 1 : NULL;
+}
+
+static const uint8_t *pins_fields(const uint8_t *at, struct peer *device)
+{
+    at = field(at, 16, &device->level);
+    at = field(at, 16, &device->reference);
+    at = field(at, 16, &device->held);
+    return field(at, 16, &device->edge);
+}
+
+static const uint8_t *bus_fields(const uint8_t *at, struct peer *device)
+{
+    uint64_t pointer = 0, bus = 0, choice = 0;
+    at = field(field(field(at, 2, &pointer), 2, &bus), 2, &choice);
+    device->pointer = (uint8_t)pointer;
+    device->bus = (uint8_t)bus;
+    device->choice = (uint8_t)choice;
+    return at;
+}
+
+/* The fields have fixed widths, so a line of the right length with a tab after each of nine fields has no room for more. */
+static int read_probe(const uint8_t *line, size_t length, struct probe *probe)
+{
+    uint8_t text[LINE_BYTES + 1];
+    uint64_t kind = 0;
+    if (length != LINE_BYTES)
+        return 0;
+    memcpy(text, line, LINE_BYTES);
+    text[LINE_BYTES] = '\n';
+    const uint8_t *at = pins_fields(registers_field(text, probe->device.registers), &probe->device);
+    at = field(bus_fields(at, &probe->device), 8, &kind);
+    probe->kind = (uint32_t)kind;
+    return field(at, 16, &probe->argument) != NULL;
+}
+
+static uint8_t *put_pins(uint8_t *to, uint64_t pins)
+{
+    to = put_hex(put_byte(to, '\t'), (uint32_t)(pins >> 32), 8);
+    return put_hex(to, (uint32_t)pins, 8);
+}
+
+static uint8_t *put_image(uint8_t *to, const struct peer *device)
+{
+    to = put_byte(to, '\t');
+    for (int i = 0; i < REGISTERS; i++)
+        to = put_hex(to, device->registers[i], 2);
+    to = put_pins(put_pins(to, device->level), device->reference);
+    to = put_pins(put_pins(to, device->held), device->edge);
+    to = put_hex(put_byte(to, '\t'), device->pointer, 2);
+    to = put_hex(put_byte(to, '\t'), device->bus, 2);
+    return put_hex(put_byte(to, '\t'), device->choice, 2);
+}
+
+static uint8_t *put_step(uint8_t *to, struct probe *probe)
+{
+    uint8_t answer[2];
+    uint32_t refusal = peer_step(&probe->device, probe->kind, probe->argument, answer);
+    if (refusal)
+        return put_refusal(to, refusal);
+    return put_byte(put_image(put_outputs(to, &probe->device, answer), &probe->device), '\n');
+}
+
+int main(void)
+{
+    static struct stream stream;
+    const uint8_t *line;
+    size_t length;
+    while ((line = next_line(&stream, LINE_BYTES, &length))) {
+        struct probe probe;
+        uint8_t *to = put_begin(&stream, MOST_PROBE_BYTES);
+        to = read_probe(line, length, &probe) ? put_step(to, &probe) : put_refusal(to, UNREADABLE);
+        put_end(&stream, to);
+    }
+    flush(&stream);
+    return 0;
+}

@@ -1,0 +1,37 @@
+/* The peer's answers as the programs write them. */
+#ifndef PEER_TEXT_H
+#define PEER_TEXT_H
+
+#include "peer.h"
+#include "text.h"
+
+enum { UNREADABLE = 7, MOST_ANSWER_BYTES = 32 };
+
+static inline uint8_t *put_refusal(uint8_t *to, uint32_t number)
+{
+    to = PUT_WORDS(to, "refused\t");
+    to = put_byte(to, (uint8_t)('0' + number));
+    return put_byte(to, '\n');
+}
+
+static inline uint8_t *put_answer(uint8_t *to, const uint8_t answer[2])
+{
+    static const char words[3][4] = {{'-', 0, 0, 0}, {'a', 'c', 'k', 0}, {'n', 'a', 'k', 0}};
+    if (answer[0] == PEER_READ)
+        return put_hex(to, answer[1], 2);
+    memcpy(to, words[answer[0]], 4);
+    return to + (answer[0] == PEER_NOTHING ? 1 : 3);
+}
+
+/* The answer, the INT line's level, the pins driven low, the pins driven high; no newline. */
+static inline uint8_t *put_outputs(uint8_t *to, const struct peer *device, const uint8_t answer[2])
+{
+    uint64_t drives[2];
+    peer_drives(device, drives);
+    to = put_byte(put_answer(to, answer), '\t');
+    to = put_byte(to, peer_int(device) ? '0' : '1');
+    to = put_hex(put_byte(to, '\t'), (uint32_t)drives[0], 6);
+    return put_hex(put_byte(to, '\t'), (uint32_t)drives[1], 6);
+}
+
+#endif

@@ -1,0 +1,131 @@
+-- What the arrays hold after a call is what the inner functions leave. Assumes nothing.
+use mathlib.Core.Path.{_≡_, refl, sym, ap, ap₂, subst, _∙_}
+use mathlib.Core.Bool.{Bool, true, false, cond, _&&_}
+use mathlib.Core.List.{List, [], _∷_}
+use Prim.Native.Nat.{ℕ, _^_, _<_}
+use borrow.Author.Tests.{le-ltb, lt-leb, eq-eqb, ne-eqb}
+use lib.Dec.{eqb, leb, ltb}
+use lib.ListN.{length}
+use Rattle.bits.proofs.Decide.{clash}
+use Rattle.map.specs.Map.{part24, reserved}
+use Rattle.registers.specs.Registers.{core, intAsserted, shown}
+use Rattle.bus.specs.Device.{State, Outcome, out}
+use Rattle.bus.specs.Held.{stateOf}
+use Rattle.bus.specs.Answers.{answerKind, answerByte, refusalNumber}
+use Rattle.bus.specs.declared.Answer.{Answer}
+use Rattle.bus.specs.declared.Rest.{Rest}
+use Rattle.device.specs.Refusals.{imageFits}
+use Rattle.device.specs.PowerOn.{powerOn, makingRefused}
+use Rattle.quiet.specs.Settings.{shape24, Write}
+use Rattle.quiet.specs.Order.{blocked}
+use Rattle.quiet.specs.Route.{planOf}
+use Rattle.planner.specs.Answer.{formed, answerOf, Answers}
+use Rattle.planner.specs.Answer.Answer.{refuse, give}
+use Rattle.planner.specs.Promise.{Promise}
+use Rattle.planner.specs.declared.Planned.{Planned}
+use Rattle.host.specs.Arrays.{Told, Made, Seen, Shown, intOf, planNumber, writesAfter, plannedAs}
+
+-- what is told of an answer: a refusal leaves it
+module _ (a : Answer) (before : List ℕ) where
+  abbrev After : List ℕ
+  After = cond (eqb (answerKind a) 4) before (answerKind a ∷ answerByte a ∷ [])
+
+  pub answer-kept : answerKind a ≡ 4 → before ≡ After
+  answer-kept e = simp (eq-eqb (answerKind a) 4 e)
+
+  pub answer-told : {kind byte : ℕ} → kind ≡ answerKind a → byte ≡ answerByte a → (kind ≡ 4 → ⊥) → kind ∷ byte ∷ [] ≡ After
+  answer-told e q h = ap₂ (λ (k b : ℕ). k ∷ b ∷ []) e q ∙ simp (ne-eqb (answerKind a) 4 (λ z. h (e ∙ z)))
+
+-- the outcome of a step, told in numbers
+pub told-of : (q : Outcome) (a : Answer) (s after : State) (n : ℕ) (before told : List ℕ) → out a s ≡ q → after ≡ s → n ≡ refusalNumber a
+    → told ≡ cond (eqb (answerKind a) 4) before (answerKind a ∷ answerByte a ∷ []) → Told q n after before told
+told-of q a s after n before told e i r t = record {
+  refused = r ∙ ap (λ (o : Outcome). refusalNumber (o .answer)) e;
+  image = i ∙ ap (λ (o : Outcome). o .after) e;
+  told = t ∙ ap (λ (o : Outcome). cond (eqb (answerKind (o .answer)) 4) before (answerKind (o .answer) ∷ answerByte (o .answer) ∷ [])) e;
+}
+
+-- the test of the image, made on what was read out of the arrays
+pub image-test : (file : List ℕ) {r q : Rest} {t b : Bool} → r ≡ q → t ≡ imageFits part24 (stateOf file r) → t ≡ b → imageFits part24 (stateOf file q) ≡ b
+image-test file e i h = ap (λ (r : Rest). imageFits part24 (stateOf file r)) (sym e) ∙ sym i ∙ h
+
+pub int-told : (file : List ℕ) {r q : Rest} {t : Bool} {n : ℕ} → n ≡ cond t 1 0 → t ≡ intAsserted part24 (core file (r .sets)) → r ≡ q → n ∷ [] ≡ intOf (stateOf file q)
+int-told file n t e =
+    ap (λ (n : ℕ). n ∷ []) n
+    ∙ ap (λ (t : Bool). cond {A = ℕ} t 1 0 ∷ []) (t ∙ ap (λ (r : Rest). intAsserted part24 (core file (r .sets))) e)
+
+-- a device that is made, or not
+pub made : (choice levels : ℕ) (before after : State) → makingRefused part24 choice levels ≡ 0 → after ≡ powerOn part24 choice levels → Made choice levels 0 before after
+made choice levels before after e q = record { refused = sym e; image = q ∙ simp e }
+
+pub not-made : (choice levels : ℕ) (before : State) → makingRefused part24 choice levels ≡ 2 → Made choice levels 2 before before
+not-made choice levels before e = record { refused = sym e; image = simp e }
+
+pub choice-over : (choice levels : ℕ) → 3 < choice → makingRefused part24 choice levels ≡ 2
+choice-over choice levels h = simp (lt-leb choice 3 h)
+
+-- a refusal of the inner function has but one number
+pub only-two : (choice levels n : ℕ) → n ≡ makingRefused part24 choice levels → (n ≡ 0 → ⊥) → makingRefused part24 choice levels ≡ 2
+only-two choice levels n e h = go (leb choice 3 && ltb levels (2 ^ 24)) (λ z. h (e ∙ z))
+  where
+    go : (b : Bool) → (_≡_ {A = ℕ} (cond b 0 2) 0 → ⊥) → _≡_ {A = ℕ} (cond b 0 2) 2
+    go true h = absurd (h refl)
+    go false h = refl
+
+pub seen : (s : State) (value lent after : List ℕ) → imageFits part24 s ≡ true → after ≡ value → Seen s value 0 lent after
+seen s value lent after e q = (simp e, q ∙ simp e)
+
+pub unseen : (s : State) (value lent : List ℕ) → imageFits part24 s ≡ false → Seen s value 3 lent lent
+unseen s value lent e = (simp e, simp e)
+
+pub shown-here : (s : State) (n : ℕ) (lent after : List ℕ) → imageFits part24 s ≡ true → reserved part24 n ≡ false → after ≡ shown part24 (s .regs) n ∷ [] → Shown s n 0 lent after
+shown-here s n lent after e r q = (simp (e, r), q ∙ simp (e, r))
+
+pub not-shown : (s : State) (n : ℕ) (lent : List ℕ) → imageFits part24 s ≡ false → Shown s n 3 lent lent
+not-shown s n lent e = (simp e, simp e)
+
+pub no-register : (s : State) (n : ℕ) (lent : List ℕ) → imageFits part24 s ≡ true → reserved part24 n ≡ true → Shown s n 2 lent lent
+no-register s n lent e r = (simp (e, r), simp (e, r))
+
+pub above : (n : ℕ) → 127 < n → reserved part24 n ≡ true
+unfolding reserved
+above n h = simp (le-ltb n 128 h)
+
+-- no refusal of the planner has the number 0
+abbrev isRefusal : Planned → Bool
+isRefusal (Planned.Writes n) = false
+isRefusal (Planned.Refused n) = true
+
+not-zero : (fit small stuck : Bool) (ws : List Write) (n : ℕ) (before after : List ℕ)
+    → Answers (Planned.Refused n) before after (cond fit (cond small (refuse 6) (cond stuck (refuse 4) (give ws))) (refuse 5)) → eqb n 0 ≡ false
+not-zero false small stuck ws n before after q = ap (λ (p : Planned). eqb (planNumber p) 0) (q .0)
+not-zero true true stuck ws n before after q = ap (λ (p : Planned). eqb (planNumber p) 0) (q .0)
+not-zero true false true ws n before after q = ap (λ (p : Planned). eqb (planNumber p) 0) (q .0)
+not-zero true false false ws n before after q = clash true refl (ap isRefusal (q .0))
+
+module _ (start goal before after : List ℕ) where
+  abbrev Said : Planned → Type 0
+  Said p = Answers p before after (answerOf start goal (length before))
+
+  refusal-not-zero : (n : ℕ) → Said (Planned.Refused n) → eqb n 0 ≡ false
+  unfolding answerOf
+  refusal-not-zero n q =
+      not-zero (formed start && formed goal) (ltb (length before) 32) (blocked shape24 start goal) (planOf shape24 start goal) n before after q
+
+  -- so the two numbers say which of the two it was
+  as-numbers : (p : Planned) → Said p → (writes : List ℕ) → plannedAs (planNumber p) (writesAfter p writes) ≡ p
+  as-numbers (Planned.Writes n) q writes = refl
+  as-numbers (Planned.Refused n) q writes = simp (refusal-not-zero n q)
+
+kept-writes : (p : Planned) (writes : List ℕ) → eqb (planNumber p) 0 ≡ false → writesAfter p writes ≡ writes
+kept-writes (Planned.Writes n) writes h = clash true refl h
+kept-writes (Planned.Refused n) writes h = refl
+
+pub plan-told : {start goal before after : List ℕ} {p : Planned} → Promise start goal before after p → Said start goal before after p
+    → {n : ℕ} {writes rest : List ℕ} → n ≡ planNumber p → rest ≡ writesAfter p writes
+    → Said start goal before after (plannedAs n rest) × (Promise start goal before after (plannedAs n rest) × (eqb n 0 ≡ false → rest ≡ writes))
+plan-told {start} {goal} {before} {after} {p} promise said {n} {writes} {rest} e q =
+    let same : plannedAs n rest ≡ p = ap₂ plannedAs e q ∙ as-numbers start goal before after p said writes in (
+      subst (Said start goal before after) (sym same) said,
+      (subst (Promise start goal before after) (sym same) promise, λ h. q ∙ kept-writes p writes (ap (λ (n : ℕ). eqb n 0) (sym e) ∙ h)),
+    )

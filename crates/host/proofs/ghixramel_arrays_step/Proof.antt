@@ -1,0 +1,32 @@
+use borrow.Author.Needs.{needs}
+use mathlib.Core.Path.{ap, _∙_}
+use Rattle.map.specs.Map.{part24}
+use Rattle.bus.specs.Held.{stateOf}
+use Rattle.bus.specs.declared.Rest.{Rest}
+use Rattle.device.specs.Refusals.{stepped}
+use Rattle.host.proofs.Laws.{told-of}
+use Rattle.host.proofs.ghixramel_arrays_step.Statement.{statement}
+use Rattle.host.proofs.ghixramel_arrays_step.Tie as tie
+
+rest-in-requires : tie.Need-rest-in-requires
+rest-in-requires c κs = search needs
+
+step-requires : tie.Need-step-requires
+step-requires c κs = search needs
+
+keep-requires : tie.Need-keep-requires
+keep-requires c κs = search needs
+
+tell-requires : tie.Need-tell-requires
+tell-requires c κs = search needs
+
+returns : tie.Need-returns
+returns c =
+    let start = c .before .before .before .before .before .before .before .before .before .before .before in
+    let x = start .args in
+    told-of _ _ _ _ _ _ _
+    (c .before .before .before .before .before .before .step .ensures ∙ ap (λ (r : Rest). stepped part24 (stateOf (x .file .now) r) (x .kind) (x .argument)) (c .before .before .before .before .before .before .before .before .rest-in .ensures))
+    (ap (stateOf _) (c .before .before .keep .ensures)) (c .tell .ensures .0) (c .tell .ensures .1)
+
+pub ghixramel-arrays-step-spec : {M : Type 1} → statement M
+ghixramel-arrays-step-spec = tie.close (tie.spec rest-in-requires step-requires keep-requires tell-requires returns)

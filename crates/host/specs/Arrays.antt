@@ -1,0 +1,73 @@
+-- What a C host sees: the state as three arrays of plain numbers, answers and refusals as numbers.
+use mathlib.Core.Bool.{cond}
+use mathlib.Core.List.{List, [], _∷_}
+use mathlib.Core.Path.{_≡_}
+use Prim.Native.Nat.{ℕ}
+use lib.Dec.{eqb}
+use lib.ListN.{getD}
+use Rattle.map.specs.Map.{part24, reserved}
+use Rattle.registers.specs.Registers.{drivenLow, drivenHigh, intAsserted, shown}
+use Rattle.bus.specs.Device.{State, Outcome}
+use Rattle.bus.specs.Held.{stateOf}
+use Rattle.bus.specs.Answers.{answerKind, answerByte, refusalNumber}
+use Rattle.bus.specs.declared.Rest.{Rest}
+use Rattle.device.specs.Refusals.{imageFits}
+use Rattle.device.specs.PowerOn.{powerOn, makingRefused}
+use Rattle.planner.specs.declared.Planned.{Planned}
+
+-- the pin sets in the order level, reference, held, edge; then pointer, bus state, address choice
+abbrev pub restIn : (pins bus : List ℕ) → Rest
+restIn pins bus = record {
+  sets = record { level = getD pins 0 0; reference = getD pins 1 0; held = getD pins 2 0; edge = getD pins 3 0 };
+  pointer = getD bus 0 0;
+  bus = getD bus 1 0;
+  choice = getD bus 2 0;
+}
+
+-- the image that the three arrays hold: all of the state
+abbrev pub imageIn : (pins file bus : List ℕ) → State
+imageIn pins file bus = stateOf file (restIn pins bus)
+
+-- what one event leaves: the refusal's number, 0 for none; the image after; the answer's kind and byte, which a refusal leaves as they were
+pub record Told (o : Outcome) (number : ℕ) (after : State) (told-before told-after : List ℕ) : Type 0 where
+  pub refused : number ≡ refusalNumber (o .answer)
+  pub image : after ≡ o .after
+  pub told : told-after ≡ cond (eqb (answerKind (o .answer)) 4) told-before (answerKind (o .answer) ∷ answerByte (o .answer) ∷ [])
+
+-- what making a device leaves: refused, the image as it was
+pub record Made (choice levels number : ℕ) (before after : State) : Type 0 where
+  pub refused : number ≡ makingRefused part24 choice levels
+  pub image : after ≡ cond (eqb (makingRefused part24 choice levels) 0) (powerOn part24 choice levels) before
+
+-- what can be seen of an image: refusal 3 if it is broken, and then what was lent for it stays as it was
+abbrev pub Seen : (s : State) → (value : List ℕ) → (number : ℕ) → (lent-before lent-after : List ℕ) → Type 0
+Seen s value number lent-before lent-after =
+    (number ≡ cond (imageFits part24 s) 0 3) × (lent-after ≡ cond (imageFits part24 s) value lent-before)
+
+abbrev pub drivesOf : State → List ℕ
+drivesOf s = drivenLow part24 (s .regs) ∷ drivenHigh part24 (s .regs) ∷ []
+
+-- 1 if INT is asserted
+abbrev pub intOf : State → List ℕ
+intOf s = cond (intAsserted part24 (s .regs)) 1 0 ∷ []
+
+-- the byte of one register: after refusal 3, refusal 2 for a number that is reserved or over 7Fh
+abbrev pub showRefused : State → (n : ℕ) → ℕ
+showRefused s n = cond (imageFits part24 s) (cond (reserved part24 n) 2 0) 3
+
+abbrev pub Shown : (s : State) → (n number : ℕ) → (lent-before lent-after : List ℕ) → Type 0
+Shown s n number lent-before lent-after =
+    (number ≡ showRefused s n) × (lent-after ≡ cond (eqb (showRefused s n) 0) (shown part24 (s .regs) n ∷ []) lent-before)
+
+-- the planner's answer as numbers: a refusal's, 0 for none, and how many writes there are, which a refusal leaves as it was
+abbrev pub planNumber : Planned → ℕ
+planNumber (Planned.Writes n) = 0
+planNumber (Planned.Refused n) = n
+
+abbrev pub writesAfter : Planned → (before : List ℕ) → List ℕ
+writesAfter (Planned.Writes n) before = n ∷ []
+writesAfter (Planned.Refused n) before = before
+
+-- and back
+abbrev pub plannedAs : (number : ℕ) → (writes : List ℕ) → Planned
+plannedAs number writes = cond (eqb number 0) (Planned.Writes (getD writes 0 0)) (Planned.Refused number)

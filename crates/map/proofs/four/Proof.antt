@@ -1,0 +1,28 @@
+use borrow.Author.Needs.{needs}
+use native.Mathlib.Omega.{arith}
+use Rattle.map.proofs.Blanks.{word-above}
+use Rattle.map.proofs.four.Statement.{statement}
+use Rattle.map.proofs.four.Tie as tie
+
+two-requires : tie.Need-two-requires
+two-requires c κs = search needs
+
+add-two : tie.Need-add-two
+add-two c = search needs
+
+two-requires-2 : tie.Need-two-requires-2
+two-requires-2 c κs = search needs
+
+mul-result : tie.Need-mul-result
+mul-result c = search needs
+
+add-result : tie.Need-add-result
+add-result c = search needs
+
+returns : tie.Need-returns
+returns c =
+    let x = c .before .before .args in
+    (word-above (x .file .now) (x .a) 2 2 (c .before .two .result) (c .two2 .result) (c .before .two .ensures .0) (c .two2 .ensures .0) 0x1_0000 (omega arith), omega (arith, c .before .two .ensures .1, c .two2 .ensures .1))
+
+pub four-spec : {M : Type 1} → statement M
+four-spec = tie.close (tie.spec two-requires add-two two-requires-2 mul-result add-result returns)

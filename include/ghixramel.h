@@ -1,0 +1,105 @@
+/* ghixramel: the PCAL6524 in software, and the planner of quiet register writes. Link with libhost.a.
+ *
+ * Every function gives 0, or the number of its refusal; refused, it changes nothing that it was lent. No call needs
+ * a check first. Nothing is allocated and nothing is kept between calls: the state lies in the caller's memory, and
+ * calls on different devices may run at the same time. What is lent to one call must not overlap, nor be NULL. */
+#ifndef GHIXRAMEL_H
+#define GHIXRAMEL_H
+
+#include <stddef.h>
+#include <stdint.h>
+
+/* The state of a device, as plain numbers: it may be stored, sent and compared. */
+struct ghixramel {
+    uint64_t pins[4];       /* pin sets, pin 0 in the lowest bit: level, reference, held, edge */
+    uint8_t registers[128]; /* one byte for each command number */
+    uint8_t bus[3];         /* pointer, bus state, address choice */
+};
+
+/* Refusals. */
+enum {
+    GHIXRAMEL_DONE = 0,
+    GHIXRAMEL_BAD_KIND = 1,     /* event kind above 5 */
+    GHIXRAMEL_BAD_ARGUMENT = 2, /* byte, acknowledge bit, levels, address choice or register number out of range */
+    GHIXRAMEL_BAD_IMAGE = 3,    /* the state is none that the device can be in */
+    GHIXRAMEL_NO_QUIET_WAY = 4, /* no list of writes gets there without disturbing a pin */
+    GHIXRAMEL_BAD_SETTING = 5,  /* start or goal not ten bytes, or its 5C over 7 */
+    GHIXRAMEL_BUFFER_SMALL = 6  /* plan buffer under GHIXRAMEL_PLAN_BYTES */
+};
+
+/* Event kinds. */
+enum {
+    GHIXRAMEL_START = 0,
+    GHIXRAMEL_STOP = 1,
+    GHIXRAMEL_BYTE = 2,   /* argument: the byte from the master */
+    GHIXRAMEL_FETCH = 3,  /* argument: 1 acknowledged, 0 not */
+    GHIXRAMEL_LEVELS = 4, /* argument: the pins that are at 1 */
+    GHIXRAMEL_RESET = 5
+};
+
+/* Answer kinds. */
+enum {
+    GHIXRAMEL_NOTHING = 0,
+    GHIXRAMEL_ACK = 1,
+    GHIXRAMEL_NAK = 2,
+    GHIXRAMEL_READ = 3 /* a byte was read; answer[1] is it */
+};
+
+/* Bus states, as bus[1] has them. */
+enum {
+    GHIXRAMEL_IDLE = 0,
+    GHIXRAMEL_OPENED = 1,
+    GHIXRAMEL_CHOSEN = 2,
+    GHIXRAMEL_FILLING = 3,
+    GHIXRAMEL_SENDING = 4,
+    GHIXRAMEL_CALL = 5,
+    GHIXRAMEL_ARMED = 6,
+    GHIXRAMEL_DEAF = 7
+};
+
+/* A setting is ten bytes, for the registers 04 05 06 0C 0D 0E 5C 70 71 72 in this order. */
+enum { GHIXRAMEL_SETTING_BYTES = 10, GHIXRAMEL_MOST_WRITES = 16, GHIXRAMEL_PLAN_BYTES = 32 };
+
+/* The same on the three arrays, for a host that lays out its state itself. */
+uint32_t ghixramel_arrays_power_on(uint64_t pins[4], uint8_t registers[128], uint8_t bus[3], uint32_t choice, uint64_t levels);
+uint32_t ghixramel_arrays_step(uint64_t pins[4], uint8_t registers[128], uint8_t bus[3], uint32_t kind, uint64_t argument, uint8_t answer[2]);
+uint32_t ghixramel_arrays_drives(const uint64_t pins[4], const uint8_t registers[128], const uint8_t bus[3], uint64_t drives[2]);
+uint32_t ghixramel_arrays_int(const uint64_t pins[4], const uint8_t registers[128], const uint8_t bus[3], uint8_t asserted[1]);
+uint32_t ghixramel_arrays_show(const uint64_t pins[4], const uint8_t registers[128], const uint8_t bus[3], uint32_t number, uint8_t shown[1]);
+
+/* A device at power-on, at address choice 0 to 3, with these pin levels. Refusal 2. */
+static inline uint32_t ghixramel_power_on(struct ghixramel *device, uint32_t choice, uint64_t levels)
+{
+    return ghixramel_arrays_power_on(device->pins, device->registers, device->bus, choice, levels);
+}
+
+/* One event. answer[0] is the answer's kind, answer[1] the byte read, else 0. Refusals 3, 1, 2. */
+static inline uint32_t ghixramel_step(struct ghixramel *device, uint32_t kind, uint64_t argument, uint8_t answer[2])
+{
+    return ghixramel_arrays_step(device->pins, device->registers, device->bus, kind, argument, answer);
+}
+
+/* The pins driven low, drives[0], and driven high, drives[1]; the others are released. Refusal 3. */
+static inline uint32_t ghixramel_drives(const struct ghixramel *device, uint64_t drives[2])
+{
+    return ghixramel_arrays_drives(device->pins, device->registers, device->bus, drives);
+}
+
+/* asserted[0] is 1 if INT is asserted (the line low), else 0. Refusal 3. */
+static inline uint32_t ghixramel_int(const struct ghixramel *device, uint8_t asserted[1])
+{
+    return ghixramel_arrays_int(device->pins, device->registers, device->bus, asserted);
+}
+
+/* shown[0] is the byte that a fetch of register `number` would show; nothing is settled. Refusals 3 and 2: reserved or over 7Fh. */
+static inline uint32_t ghixramel_show(const struct ghixramel *device, uint32_t number, uint8_t shown[1])
+{
+    return ghixramel_arrays_show(device->pins, device->registers, device->bus, number, shown);
+}
+
+/* The writes that lead from one setting to another: writes[0] pairs register, value from the start of the buffer,
+ * at most GHIXRAMEL_MOST_WRITES; bytes past them stay. Refusals 5, 6, 4. */
+uint32_t ghixramel_plan(const uint8_t *start, size_t start_bytes, const uint8_t *goal, size_t goal_bytes,
+                        uint8_t *buffer, size_t buffer_bytes, uint64_t writes[1]);
+
+#endif

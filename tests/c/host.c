@@ -1,0 +1,16 @@
+/* The library as a host calls it: the rules' worked example and bench points, every refusal, the planner over the bus.
+ * A line for each check that failed; the last line is `host: N checks, M failed`. */
+#include "checks.h"
+#include "guarded.h"
+#include "host_checks.h"
+
+int main(void)
+{
+    check_points();
+    check_device_refusals();
+    check_bounds();
+    check_shows();
+    check_plans();
+    check_stacks();
+    return verdict();
+}

@@ -1,0 +1,11 @@
+/* The parts of the host's checks. */
+#ifndef HOST_CHECKS_H
+#define HOST_CHECKS_H
+
+void check_points(void);
+void check_device_refusals(void);
+void check_bounds(void);
+void check_shows(void);
+void check_plans(void);
+
+#endif

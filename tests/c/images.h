@@ -1,0 +1,26 @@
+/* The register map as the rules have it, and states of a device. */
+#ifndef IMAGES_H
+#define IMAGES_H
+
+#include <ghixramel.h>
+
+struct group {
+    uint8_t first, last;
+    uint8_t power_on;
+    uint8_t stored; /* the bits that a write can change */
+};
+
+enum { GROUPS = 17, REGISTERS = 128, ALL_PINS = 0xFFFFFF };
+
+extern const struct group groups[GROUPS];
+
+/* NULL for a reserved number. */
+const struct group *group_of(uint32_t number);
+
+/* The bits of an entry that can be other than 0. */
+uint8_t stored_bits(uint32_t number);
+
+/* Any state that a device can be in. */
+struct ghixramel random_image(uint64_t *random);
+
+#endif

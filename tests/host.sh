@@ -1,0 +1,49 @@
+#!/usr/bin/env bash
+# The library as a C program calls it: its own checks (tests/c/host.c), then the independent model on seeded images, logs and plans
+# (SEED, IMAGES, LOGS and PLANS on request: IMAGES=100000 SEED=7 tests/host.sh).
+set -u
+cd "$(dirname "${BASH_SOURCE[0]}")/.." || exit 2
+. tests/c/kit.sh
+out=target/host
+bad=0
+fail() {
+    echo "host: $*"
+    bad=1
+}
+
+objects() { # NAMES..
+    local name
+    for name; do echo "$out/$name.o"; done
+}
+
+build() {
+    local name watched="checks guarded stack"
+    mkdir -p "$out" || return 1
+    for name in host $watched images master points refusals shows plans as_peer plan_lines; do
+        compile_c "$out/$name.o" "tests/c/$name.c" -I bench || return 1
+    done
+    for name in mix peer_probe peer_trace; do
+        compile_c "$out/$name.o" "bench/$name.c" || return 1
+    done
+    # shellcheck disable=SC2046,SC2086
+    link_c "$out/host" $(objects host $watched images master points refusals shows plans mix) "$library" &&
+        link_c "$out/probe" $(objects peer_probe as_peer $watched) "$library" &&
+        link_c "$out/trace" $(objects peer_trace as_peer $watched) "$library" &&
+        link_c "$out/plan" $(objects plan_lines $watched) "$library"
+}
+
+judge() { # PROGRAM COUNT
+    python3 tests/model/compare.py "$1" "${launch[@]}" "$out/$1" --seed "${SEED:-1}" --count "$2" || bad=1
+}
+
+need_library || exit 1
+build || exit 1
+
+"$tools/bin/ld.lld" -static -e 0 -T tests/c/alone.ld --whole-archive "$library" -o "$out/alone" ||
+    fail "the library needs a symbol of others, or keeps data"
+
+"${launch[@]}" "$out/host" || bad=1
+judge probe "${IMAGES:-5000}"
+judge trace "${LOGS:-300}"
+judge plan "${PLANS:-500}"
+exit $bad
