@@ -8,7 +8,7 @@ use Rattle.text.specs.declared.Digits.{Digits}
 use Rattle.text.specs.declared.Digits.the-variants.{Number, None}
 use Rattle.text.specs.Text.{digitOf, fieldOf, hexText}
 
--- the digits of each: registers; level, reference, held, edge; pointer, bus state, address choice; an event's kind and argument
+-- the digits of each field: registers; level, reference, held, edge; pointer, bus state, address choice; an event's kind and argument
 abbrev pub widths : List ℕ
 widths = 256 ∷ 16 ∷ 16 ∷ 16 ∷ 16 ∷ 2 ∷ 2 ∷ 2 ∷ 8 ∷ 16 ∷ []
 
@@ -31,7 +31,7 @@ lineForm = drop 1 (form widths)
 abbrev pub readable : (line : List ℕ) → Bool
 readable line = hasForm lineForm line
 
--- ---- the numbers of a readable line
+-- ---- the numbers of a readable line, all of whose fields are digits (`field-says`)
 abbrev pub valueOf : Digits → ℕ
 valueOf (Number n) = n
 valueOf None = 0

@@ -65,6 +65,7 @@ fn number_at(line: &[u8], at: usize, width: usize, most: u64) -> u64
     n
 }
 
+// Two digits.
 pub fn byte_at(line: &[u8], at: usize) -> u8
     requires { ⌜ at + 2 ≤ length (now line) ⌝ }
     ensures { λ r. ⌜ r ≡ numberAt (now (line .entry)) at 2 ⌝ }
@@ -88,6 +89,7 @@ pub fn kind_in(line: &[u8]) -> u32
     number_at(line, 334, 8, 0xffff_ffff) as u32
 }
 
+// The registers.
 pub fn file_in(line: &[u8]) -> [u8; 128]
     requires { ⌜ length (now line) ≡ 359 ⌝ }
     ensures { λ r. ⌜ r ≡ bytesAt (now (line .entry)) 0 128 ⌝ }

@@ -2,13 +2,12 @@
 use mathlib.Core.Path.{_≡_, refl, ap, sym, _∙_}
 use mathlib.Core.Bool.{Bool, true, false, cond}
 use mathlib.Core.List.{List, [], _∷_, _++_, append-assoc, append-nil}
-use Prim.Native.Nat.{ℕ, zero, suc, _+_, _-_, _<_, _≤_, min}
-use native.Mathlib.Numerals.{add-one}
+use Prim.Native.Nat.{ℕ, suc, _+_, _<_, _≤_}
 use native.Mathlib.Omega.{arith}
-use borrow.Author.Tests.{eq-eqb, ne-eqb, lt-ltb, ltb-true, ltb-false}
+use borrow.Author.Tests.{lt-ltb, ltb-true, ltb-false}
 use lib.Dec.{eqb, ltb}
-use lib.ListN.{length, take, drop, getD, length-append, length-take}
-use lib.Seq.{drop-cons, drop-length, take-all, take-at, take-append-add, length-take-le, sets-eq}
+use lib.ListN.{length, take, drop, length-take}
+use lib.Seq.{drop-length, take-all, length-take-le}
 use Rattle.pieces.specs.Pieces.{newlineAt}
 use Rattle.pieces.proofs.Laws.{take-again}
 use Rattle.lines.specs.Lines.{lineOf}
