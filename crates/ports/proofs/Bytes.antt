@@ -12,7 +12,7 @@ use lib.Dec.{eqb, ltb}
 use lib.ListN.{getD}
 use Rattle.bits.specs.Bits.{bit, tabulate}
 use Rattle.bits.proofs.Decide.{each, taut}
-use Rattle.bits.proofs.Laws.{tabulate-lt, bit-tabulate, pin-of, bit-high, bit-ones}
+use Rattle.bits.proofs.Laws.{tabulate-lt, bit-tabulate, pin-of, bit-or, bit-high, bit-ones}
 use Rattle.bits.proofs.Join.{joined}
 use Rattle.ports.specs.Ports.{bytesBit, evensOf, risingBit, fallingBit}
 
@@ -94,19 +94,30 @@ module _ (a b c d e f j : ℕ) where
   six (suc (suc (suc (suc (suc zero))))) h = refl
   six (suc (suc (suc (suc (suc (suc q)))))) h = absurd (omega arith)
 
--- the high bits of the fields are the low bits of the registers shifted by one
+-- the six together, each changed in one way
 module _ (a b c d e f : ℕ) where
-  halves : (q : ℕ) → getD (a / 2 ∷ b / 2 ∷ c / 2 ∷ d / 2 ∷ e / 2 ∷ f / 2 ∷ []) q 0 ≡ getD (a ∷ b ∷ c ∷ d ∷ e ∷ f ∷ []) q 0 / 2
-  halves zero = refl
-  halves (suc zero) = refl
-  halves (suc (suc zero)) = refl
-  halves (suc (suc (suc zero))) = refl
-  halves (suc (suc (suc (suc zero)))) = refl
-  halves (suc (suc (suc (suc (suc zero))))) = refl
-  halves (suc (suc (suc (suc (suc (suc q)))))) = refl
+  changed : (g : ℕ → ℕ) → g 0 ≡ 0 → (q : ℕ) → getD (g a ∷ g b ∷ g c ∷ g d ∷ g e ∷ g f ∷ []) q 0 ≡ g (getD (a ∷ b ∷ c ∷ d ∷ e ∷ f ∷ []) q 0)
+  changed g z zero = refl
+  changed g z (suc zero) = refl
+  changed g z (suc (suc zero)) = refl
+  changed g z (suc (suc (suc zero))) = refl
+  changed g z (suc (suc (suc (suc zero)))) = refl
+  changed g z (suc (suc (suc (suc (suc zero))))) = refl
+  changed g z (suc (suc (suc (suc (suc (suc q)))))) = sym z
 
+  -- the high bits of the fields are the low bits of the registers shifted by one
   pub high-bits : (i : ℕ)
       → risingBit (getD (a / 2 ∷ b / 2 ∷ c / 2 ∷ d / 2 ∷ e / 2 ∷ f / 2 ∷ []) (i / 4) 0) i
       ≡ fallingBit (getD (a ∷ b ∷ c ∷ d ∷ e ∷ f ∷ []) (i / 4) 0) i
   unfolding bit
-  high-bits i = ap (λ (x : ℕ). bit x (2 * (i % 4))) (halves (i / 4)) ∙ ap (bit (getD (a ∷ b ∷ c ∷ d ∷ e ∷ f ∷ []) (i / 4) 0)) (sym (add-one (2 * (i % 4))))
+  high-bits i = ap (λ (x : ℕ). risingBit x i) (changed (λ x. x / 2) refl (i / 4)) ∙ ap (bit (getD (a ∷ b ∷ c ∷ d ∷ e ∷ f ∷ []) (i / 4) 0)) (sym (add-one (2 * (i % 4))))
+
+  -- a field that asks for something: its low bit or its high bit
+  pub either-bits : (i : ℕ)
+      → risingBit (getD (bitOr a (a / 2) ∷ bitOr b (b / 2) ∷ bitOr c (c / 2) ∷ bitOr d (d / 2) ∷ bitOr e (e / 2) ∷ bitOr f (f / 2) ∷ []) (i / 4) 0) i
+      ≡ (risingBit (getD (a ∷ b ∷ c ∷ d ∷ e ∷ f ∷ []) (i / 4) 0) i || fallingBit (getD (a ∷ b ∷ c ∷ d ∷ e ∷ f ∷ []) (i / 4) 0) i)
+  unfolding bit
+  either-bits i =
+      let x = getD (a ∷ b ∷ c ∷ d ∷ e ∷ f ∷ []) (i / 4) 0 in
+      ap (λ (x : ℕ). risingBit x i) (changed (λ x. bitOr x (x / 2)) refl (i / 4))
+      ∙ bit-or x (x / 2) (2 * (i % 4)) ∙ ap (λ (t : Bool). risingBit x i || t) (ap (bit x) (sym (add-one (2 * (i % 4)))))

@@ -1,6 +1,6 @@
 // From the bytes of registers to pin sets, and back.
 ghost use mathlib.Core.Path.{_≡_};
-ghost use mathlib.Core.Bool.{_&&_};
+ghost use mathlib.Core.Bool.{_&&_, _||_};
 ghost use mathlib.Core.List.{[], _∷_};
 ghost use Prim.Native.Nat.{ℕ, _/_, _%_, _<_, _^_};
 ghost use lib.ListN.{getD};
@@ -101,4 +101,19 @@ pub fn falling6(a: u8, b: u8, c: u8, d: u8, e: u8, f: u8) -> u64
     ensures { λ s. ⌜ ((i : ℕ) → i < 24 → bit s i ≡ fallingBit (getD (a ∷ b ∷ c ∷ d ∷ e ∷ f ∷ []) (i / 4) 0) i) ⌝ }
 {
     rising6(a >> 1, b >> 1, c >> 1, d >> 1, e >> 1, f >> 1)
+}
+
+// And those whose field asks for either.
+pub fn either6(a: u8, b: u8, c: u8, d: u8, e: u8, f: u8) -> u64
+    ensures { λ s. ⌜ ((i : ℕ) → i < 24 → bit s i
+        ≡ (risingBit (getD (a ∷ b ∷ c ∷ d ∷ e ∷ f ∷ []) (i / 4) 0) i || fallingBit (getD (a ∷ b ∷ c ∷ d ∷ e ∷ f ∷ []) (i / 4) 0) i)) ⌝ }
+{
+    rising6(
+        a | (a >> 1),
+        b | (b >> 1),
+        c | (c >> 1),
+        d | (d >> 1),
+        e | (e >> 1),
+        f | (f >> 1),
+    )
 }

@@ -1,6 +1,6 @@
 // The register file and the pins: reading, writing and fetching a register, and what the pins drive and show.
 ghost use mathlib.Core.Path.{_≡_};
-ghost use mathlib.Core.Bool.{cond};
+ghost use mathlib.Core.Bool.{cond, _||_};
 ghost use Prim.Native.Nat.{ℕ, _+_, _/_, _<_, _≤_, _^_};
 ghost use lib.ListN.{getD};
 ghost use Rattle.bits.specs.Bits.{bit};
@@ -41,6 +41,20 @@ fn edge_fields(file: &[u8; 128]) -> Edges
         rising: ports::rising6(a, b, c, d, e, f),
         falling: ports::falling6(a, b, c, d, e, f),
     }
+}
+
+// The pins whose edge field asks for something.
+pub fn edged(file: &[u8; 128]) -> u64
+    ensures { λ s. ⌜ ((i : ℕ) → i < 24 → bit s i ≡ (risingBit (edgeByte part24 (now (file .entry)) i) i || fallingBit (edgeByte part24 (now (file .entry)) i) i)) ⌝ }
+{
+    ports::either6(
+        file[0x60],
+        file[0x61],
+        file[0x62],
+        file[0x63],
+        file[0x64],
+        file[0x65],
+    )
 }
 
 // The registers that events depend on.

@@ -1,13 +1,13 @@
 -- What the code reads off is what the definitions say. Assumes nothing.
 use mathlib.Core.Path.{_≡_, refl, sym, ap, _∙_}
-use mathlib.Core.Bool.{Bool, true, _&&_}
+use mathlib.Core.Bool.{Bool, true, false, _&&_, _||_}
 use mathlib.Core.List.{List}
 use Prim.Native.Nat.{ℕ, _+_, _-_, _*_, _%_, _<_}
 use native.Mathlib.Omega.{arith}
 use lib.ListN.{getD}
 use Rattle.bits.specs.Bits.{bit}
 use Rattle.bits.proofs.Laws.{tabulate-ext}
-use Rattle.pins.specs.Pin.{only, inputFetched}
+use Rattle.pins.specs.Pin.{Pin, source, pending, status, only, inputFetched}
 use Rattle.pins.specs.AllPins.{Within, pinAt, mapPins}
 use Rattle.pins.specs.OnePin.{Happening, pinAfter}
 use Rattle.pins.specs.OnePin.Happening.{InputFetched, Elsewhere}
@@ -90,3 +90,10 @@ module _ (x : Sets) (n : ℕ) where
       ap (λ (b : Bool). only b inputFetched (pinAt x i)) (g i ∙ ap (λ (k : ℕ). inPort k i) (port-at n h Input e refl))
       ∙ written-here (inPort (n - firstOf part24 Input) i) (λ t. inputFetched) InputFetched (registersAt part24 file i) (pinAt x i) refl))
       ∙ ap (λ (k : Kind). core file (mapPins 24 x (λ i. pinAfter (fetchedAs part24 k n i) (registersAt part24 file i)))) (sym e)
+
+-- a status bit depends on whether the field asks for something, not on what
+pub asked-status : (c m l r f : Bool) (x : Pin) → status (source c m l (r || f) false) x ≡ status (source c m l r f) x
+unfolding status pending
+asked-status c m l true f x = refl
+asked-status c m l false true x = refl
+asked-status c m l false false x = refl

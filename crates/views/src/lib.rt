@@ -10,6 +10,7 @@ ghost use Rattle.pins.specs.declared.Sets.{Sets};
 ghost use Rattle.map.specs.Map.{part24};
 ghost use Rattle.registers.specs.Registers.{core, onePin, drivenLow, drivenHigh, intAsserted, shown, fetched};
 use pins::Sets;
+use pins::Sources;
 
 // Each port's bit of the output port kind, at its pins.
 fn port_kinds(file: &[u8; 128]) -> u64
@@ -59,7 +60,15 @@ fn inputs(file: &[u8; 128], x: Sets) -> u64
 pub fn statuses(file: &[u8; 128], x: Sets) -> u64
     ensures { λ s. ⌜ ((i : ℕ) → i < 24 → bit s i ≡ statusOf (onePin part24 (core (now (file .entry)) x) i)) × (s < 2 ^ 24) ⌝ }
 {
-    pins::status_bits(registers::sources(file), x)
+    // a field that asks for something counts, whatever it asks for
+    let asking = Sources {
+        configuration: registers::group(file, 0x0c),
+        mask: registers::group(file, 0x54),
+        latch: registers::group(file, 0x48),
+        rising: registers::edged(file),
+        falling: 0,
+    };
+    pins::status_bits(asking, x)
 }
 
 // Whether INT is asserted.
