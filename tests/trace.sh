@@ -17,6 +17,7 @@ done
 
 # a host that talks through a pipe has each answer before it sends the next line
 coproc ./ghixramel trace
+program=$COPROC_PID
 ask() { # LINE, then the answer must come
     printf '%s\n' "$1" >&"${COPROC[1]}"
     IFS= read -r -t 20 told <&"${COPROC[0]}" || fail "no answer to '$1'"
@@ -27,7 +28,7 @@ ask 'start'
 ask $'byte\t44'
 [ "$told" = $'ack\t1\t000000\t000000' ] || fail "the address byte got '$told'"
 eval "exec ${COPROC[1]}>&-"
-wait "$COPROC_PID" 2>/dev/null
+wait "$program" 2>/dev/null
 
 # a line of ten million bytes is one refusal
 lines=$(head -c 10000000 /dev/zero | tr '\0' 'x' | ./ghixramel trace | wc -l)

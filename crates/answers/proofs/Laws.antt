@@ -31,7 +31,7 @@ unfolding columns hexText
 columns-are int low high level l h e p q = rw (e, p, q)
 
 -- an answer of one of the first four kinds is no refusal
-answered : (answer : Answer) → OneOf (0 ∷ 1 ∷ 2 ∷ 3 ∷ []) (tagOf the-type answer) → (rest : List ℕ) → rest ≡ lineEnd answer rest
+pub answered : (answer : Answer) → OneOf (0 ∷ 1 ∷ 2 ∷ 3 ∷ []) (tagOf the-type answer) → (rest : List ℕ) → rest ≡ lineEnd answer rest
 answered Nothing k rest = refl
 answered Ack k rest = refl
 answered Nak k rest = refl

@@ -7,21 +7,17 @@ use native.Mathlib.Omega.{arith}
 use borrow.Author.Tests.{eq-eqb, ne-eqb, lt-ltb, le-ltb, ltb-true}
 use lib.Dec.{eqb, ltb}
 use lib.ListN.{length, take, drop, length-take, length-drop}
-use lib.Seq.{take-all}
 use Rattle.text.specs.Text.{Wrote}
-use Rattle.text.proofs.Laws.{wrote-as, wrote-both, wrote-length}
+use Rattle.text.proofs.Laws.{wrote-as, wrote-both, wrote-nothing, wrote-length}
+use Rattle.pieces.specs.Pieces.{newlineAt}
 use Rattle.lines.specs.Lines.{lineOf}
 use Rattle.lines.proofs.Laws.{rest as tail}
 use Rattle.tracing.specs.Tracing.{Session, traced, sessionOf, Says}
 use Rattle.tracing.specs.declared.Desk.{Desk}
 use Rattle.tracing.proofs.Laws.{says-as, traced-short}
 use Rattle.logs.specs.declared.Reader.{Reader}
-use Rattle.logs.specs.Pieces.{Reading, Given, readingOf, grown, answerOf, ended, andThen, given, newlineAt, takenOf, firstGiven, Gives, lastText}
+use Rattle.logs.specs.Pieces.{Reading, Given, readingOf, grown, answerOf, ended, andThen, given, takenOf, firstGiven, Gives, lastText}
 use Rattle.logs.proofs.Laws.{given-first, line-take}
-
--- writing nothing
-wrote-nothing : (out : List ℕ) (at : ℕ) → Wrote out at [] at out
-wrote-nothing out at = record { ends = omega arith; holds = refl }
 
 -- the first line of a piece, or all of it
 module _ (r : Reading) (piece : List ℕ) (n : ℕ) (found : n ≡ newlineAt piece) where

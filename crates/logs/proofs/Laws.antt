@@ -2,69 +2,16 @@
 use mathlib.Core.Path.{_≡_, refl, ap, sym, _∙_}
 use mathlib.Core.Bool.{Bool, true, false, cond}
 use mathlib.Core.List.{List, [], _∷_, _++_, append-assoc, append-nil}
-use Prim.Native.Nat.{ℕ, zero, suc, _+_, _-_, _<_, _≤_, min}
-use native.Mathlib.Numerals.{add-one}
+use Prim.Native.Nat.{ℕ, suc, _+_, _<_, _≤_}
 use native.Mathlib.Omega.{arith}
-use borrow.Author.Tests.{eq-eqb, ne-eqb, lt-ltb, ltb-true, ltb-false}
+use borrow.Author.Tests.{lt-ltb, ltb-true, ltb-false}
 use lib.Dec.{eqb, ltb}
-use lib.ListN.{length, take, drop, getD, length-append, length-take}
-use lib.Seq.{drop-cons, drop-length, take-all, take-at, take-append-add, length-take-le, sets-eq}
-use Rattle.text.specs.Text.{Wrote}
-use Rattle.text.proofs.Laws.{wrote-as}
+use lib.ListN.{length, take, drop, length-take}
+use lib.Seq.{drop-length, take-all, length-take-le}
+use Rattle.pieces.specs.Pieces.{newlineAt}
+use Rattle.pieces.proofs.Laws.{take-again}
 use Rattle.lines.specs.Lines.{lineOf}
-use Rattle.logs.specs.Pieces.{Reading, Given, grown, ended, andThen, given, newlineAt, takenOf, firstGiven}
-
-module _ (piece : List ℕ) (i : ℕ) (inside : i < length piece) where
-  pub newline-here : getD piece i 0 ≡ 0x0a → newlineAt (drop i piece) ≡ 0
-  unfolding newlineAt
-  newline-here h = rw (drop-cons piece i 0, eq-eqb (getD piece i 0) 0x0a h)
-
-  pub newline-later : (getD piece i 0 ≡ 0x0a → ⊥) → newlineAt (drop i piece) ≡ suc (newlineAt (drop (i + 1) piece))
-  unfolding newlineAt
-  newline-later h = rw (add-one i, drop-cons piece i 0, ne-eqb (getD piece i 0) 0x0a h)
-
-take-least : (n : ℕ) (s : List ℕ) → take (min n (length s)) s ≡ take n s
-take-least n s = go (ltb n (length s)) refl
-  where
-    go : (t : Bool) → ltb n (length s) ≡ t → take (min n (length s)) s ≡ take n s
-    go true e = let l : min n (length s) ≡ n = omega (arith, ltb-true n (length s) e) in ap (λ (k : ℕ). take k s) l
-    go false e =
-        let l : length s ≤ n = ltb-false n (length s) e in
-        take-all (min n (length s)) s (omega arith) ∙ sym (take-all n s l)
-
--- 33 bytes of the line that has begun are kept
-module _ (held part : List ℕ) (len n : ℕ) (all : length held ≡ 33) (fits : len ≤ 33) (least : n ≡ min (33 - len) (length part)) where
-  part-length : length (take n part) ≡ n
-  part-length = length-take-le n part (omega arith)
-
-  -- the part that is copied, as the code names it
-  part-is : take (n - 0) part ≡ take n part
-  part-is = let e : n - 0 ≡ n = omega arith in ap (λ (k : ℕ). take k part) e
-
-  held-length : length (take len held) ≡ len
-  held-length = length-take-le len held (omega arith)
-
-  pub kept : {end : ℕ} {left : List ℕ} → Wrote held len (take (n - 0) part) end left → take end left ≡ take 33 (take len held ++ part)
-  kept {end} {left} v =
-      let w : Wrote held len (take n part) end left = wrote-as part-is v in
-      let e : length (take len held) + (33 - len) ≡ 33 = omega (arith, held-length) in
-      ap (take end) (w .holds ∙ sets-eq (take n part) held len (omega (arith, part-length)))
-      ∙ take-at (take len held ++ take n part) (drop (len + length (take n part)) held) end (length-append (take len held) (take n part) ∙ omega (arith, part-length, held-length, w .ends))
-      ∙ ap (λ (x : List ℕ). take len held ++ x) (ap (λ (k : ℕ). take k part) least ∙ take-least (33 - len) part)
-      ∙ sym (take-append-add (take len held) part (33 - len))
-      ∙ ap (λ (k : ℕ). take k (take len held ++ part)) e
-
-  pub kept-small : {end : ℕ} {left : List ℕ} → Wrote held len (take (n - 0) part) end left → end ≤ 33
-  kept-small v = omega (arith, part-length, wrote-as part-is v .ends)
-
-  pub kept-room : len + length (take (n - 0) part) ≤ length held
-  kept-room = rw part-is (omega (arith, part-length))
-
--- a beginning of a beginning, with more after it
-pub take-again : (n : ℕ) (s t : List ℕ) → take n (take n s ++ t) ≡ take n (s ++ t)
-take-again zero s t = refl
-take-again (suc n) [] t = refl
-take-again (suc n) (b ∷ s) t = ap (λ (x : List ℕ). b ∷ x) (take-again n s t)
+use Rattle.logs.specs.Pieces.{Reading, Given, grown, ended, andThen, given, takenOf, firstGiven}
 
 grown-twice : (r : Reading) (s t : List ℕ) → grown (grown r s) t ≡ grown r (s ++ t)
 grown-twice r s t =

@@ -2,19 +2,19 @@
 use mathlib.Core.Path.{_≡_, refl, ap, sym, _∙_}
 use mathlib.Core.Bool.{Bool, true, false, cond}
 use mathlib.Core.List.{List, [], _∷_, _++_, append-assoc, append-nil}
-use Prim.Native.Nat.{ℕ, _<_, _≤_}
+use Prim.Native.Nat.{ℕ}
 use native.Mathlib.Omega.{arith}
-use borrow.Author.Tests.{ne-eqb, lt-ltb, ltb-true, ltb-false}
-use lib.Dec.{eqb, ltb}
+use borrow.Author.Tests.{ne-eqb}
+use lib.Dec.{eqb}
 use lib.ListN.{length, take, length-take}
-use lib.Seq.{take-all, length-take-le}
 use Rattle.lines.specs.declared.Line.{Line}
 use Rattle.lines.specs.Lines.{lineOf}
 use Rattle.tracing.specs.Tracing.{Session, Traced, traced}
 use Rattle.tracing.specs.Tracing.Session.{NoDevice}
 use Rattle.logs.specs.Logs.{header, linesOf, lastLine, answersFrom, answersOf}
 use Rattle.logs.specs.Pieces.{Reading, Given, opened, grown, ended, andThen, given, lastText, joined, givenAll, written}
-use Rattle.logs.proofs.Laws.{take-again, line-take}
+use Rattle.pieces.proofs.Laws.{take-again}
+use Rattle.logs.proofs.Laws.{line-take}
 
 -- ---- pieces
 then-then : (s t : List ℕ) (g : Given) → andThen s (andThen t g) ≡ andThen (s ++ t) g

@@ -2,10 +2,11 @@
 use mathlib.Core.Path.{_≡_}
 use mathlib.Core.Bool.{cond}
 use mathlib.Core.List.{List, [], _∷_, _++_}
-use Prim.Native.Nat.{ℕ, suc, _+_, _≤_}
+use Prim.Native.Nat.{ℕ, _+_, _≤_}
 use lib.Dec.{eqb, ltb}
 use lib.ListN.{length, take}
 use Rattle.text.specs.Text.{Wrote}
+use Rattle.pieces.specs.Pieces.{newlineAt}
 use Rattle.lines.specs.Lines.{lineOf}
 use Rattle.tracing.specs.Tracing.{Session, Traced, traced, sessionOf}
 use Rattle.tracing.specs.Tracing.Session.{NoDevice}
@@ -48,11 +49,7 @@ unfoldable pub given : Reading → (piece : List ℕ) → Given
 given r [] = record { text = []; after = r }
 given r (b ∷ piece) = cond (eqb b 0x0a) (andThen (ended r .text) (given (ended r .after) piece)) (given (grown r (b ∷ [])) piece)
 
--- the same by lines: where the first newline stands, or the length
-unfoldable pub newlineAt : List ℕ → ℕ
-newlineAt [] = 0
-newlineAt (b ∷ piece) = cond (eqb b 0x0a) 0 (suc (newlineAt piece))
-
+-- the same by lines
 -- how much of a piece its first line takes, with its newline
 unfoldable pub takenOf : List ℕ → ℕ
 takenOf piece = cond (ltb (newlineAt piece) (length piece)) (newlineAt piece + 1) (length piece)

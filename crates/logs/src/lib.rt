@@ -1,12 +1,12 @@
 // A whole log in pieces of any size, in bounded memory.
 ghost use mathlib.Core.Path.{_≡_};
 ghost use mathlib.Core.List.{List};
-ghost use Prim.Native.Nat.{ℕ, _+_, _*_, _≤_, min};
+ghost use Prim.Native.Nat.{ℕ, _+_, _*_, _≤_};
 ghost use lib.ListN.{length};
 ghost use Rattle.text.specs.Text.{Wrote};
 ghost use Rattle.tracing.specs.Tracing.{Says};
 ghost use Rattle.logs.specs.Logs.{header};
-ghost use Rattle.logs.specs.Pieces.{readingOf, opened, grown, answerOf, given, newlineAt, takenOf, firstGiven, Gives, lastText};
+ghost use Rattle.logs.specs.Pieces.{readingOf, opened, grown, answerOf, given, takenOf, firstGiven, Gives, lastText};
 use bus::Rest;
 use pins::Sets;
 use tracing::Desk;
@@ -25,29 +25,6 @@ pub struct Fed {
     pub end: usize,
 }
 
-// Where the first newline stands, or the length.
-fn newline_at(piece: &[u8]) -> usize
-    ensures { λ r. ⌜ (r ≡ newlineAt (now (piece .entry))) × (r ≤ length (now (piece .entry))) ⌝ }
-{
-    let mut i = 0;
-    while i < piece.len() {
-        if piece[i] == b'\n' {
-            return i;
-        }
-        i += 1;
-    }
-    i
-}
-
-fn least(a: usize, b: usize) -> usize
-    ensures { λ r. ⌜ (r ≤ a) × (r ≤ b) × (r ≡ min a b) ⌝ }
-{
-    if a < b {
-        return a;
-    }
-    b
-}
-
 // The line that has begun, with these bytes.
 fn grow(held: &mut [u8; 33], r: Reader, part: &[u8]) -> Reader
     requires { ⌜ r .len ≤ 33 ⌝ }
@@ -55,9 +32,7 @@ fn grow(held: &mut [u8; 33], r: Reader, part: &[u8]) -> Reader
 {
     let desk = r.desk;
     let len = r.len;
-    let room = 33 - len;
-    let n = least(room, part.len());
-    let end = text::put(held, len, &part[0..n]);
+    let end = pieces::keep(held, len, part);
     Reader { desk, len: end }
 }
 
@@ -118,7 +93,7 @@ fn first_line(
     requires { ⌜ (r .len ≤ 33) × (length (now held) ≡ 33) × (at + 26 ≤ length (now out)) ⌝ }
     ensures { λ t. ⌜ Gives (firstGiven (readingOf (now (file .entry)) (now (held .entry)) r) (now (piece .entry))) (now (out .entry)) at (t .end) (now (out .exit)) (now (file .exit)) (now (held .exit)) (t .reader) × (t .taken ≡ takenOf (now (piece .entry))) ⌝ }
 {
-    let newline = newline_at(piece);
+    let newline = pieces::newline_at(piece);
     if piece.len() <= newline {
         let reader = grow(held, r, piece);
         return Took {

@@ -1,17 +1,17 @@
 -- One turn of each loop, over plain lists.
-use mathlib.Core.Path.{_≡_, refl, ap, _∙_}
+use mathlib.Core.Path.{_≡_, refl, ap, sym, _∙_}
 use mathlib.Core.Bool.{false, and-false}
 use mathlib.Core.List.{List, [], _∷_, _++_}
-use Prim.Native.Nat.{ℕ, suc, _+_, _-_, _*_, _^_, _<_, _≤_}
+use Prim.Native.Nat.{ℕ, zero, suc, _+_, _-_, _*_, _/_, _%_, _^_, _<_, _≤_}
 use native.Mathlib.Numerals.{add-one}
 use native.Mathlib.Nat.{pow-suc, pow-le-pow-right, lt-of-lt-of-le}
 use native.Mathlib.Omega.{arith}
 use lib.Dec.{eqb, lit<}
 use lib.ListN.{length, drop, getD, set, length-append}
-use lib.Seq.{drop-cons, sets, length-sets}
+use lib.Seq.{drop-cons, sets, length-sets, set-comm}
 use borrow.Author.Tests.{ne-eqb, eq-eqb, lt-ltb, le-ltb, le-leb, lt-leb}
 use Rattle.text.specs.declared.Digits.the-variants.{Number, None}
-use Rattle.text.specs.Text.{startsWith, digitOf, numberOf, fieldOf, Wrote}
+use Rattle.text.specs.Text.{startsWith, digitOf, numberOf, fieldOf, digitByte, hexText, Wrote}
 
 pub starts-short : (word text : List ℕ) → length text < length word → startsWith word text ≡ false
 unfolding startsWith
@@ -69,6 +69,26 @@ pub sets-more : (out : List ℕ) (at i : ℕ) (text : List ℕ) → i < length t
 sets-more out at i text h =
     rw (add-one i, drop-cons text i 0) (ap (λ (k : ℕ). sets (set out (at + i) (getD text i 0)) k (drop (suc i) text)) (omega arith))
 
+-- a store past a run of them may come first
+set-sets : (out : List ℕ) (at k b : ℕ) (s : List ℕ) → at + length s ≤ k → set (sets out at s) k b ≡ sets (set out k b) at s
+set-sets out at k b [] h = refl
+set-sets out at k b (x ∷ s) h =
+    set-sets (set out at x) (suc at) k b s (omega arith) ∙ ap (λ (o : List ℕ). sets o (suc at) s) (set-comm out at k x b (λ e. omega arith))
+
+pub hex-length : (count n : ℕ) → length (hexText count n) ≡ count
+unfolding hexText
+hex-length zero n = refl
+hex-length (suc count) n = omega (arith, length-append (hexText count (n / 16)) (digitByte (n % 16) ∷ []), hex-length count (n / 16))
+
+-- the lowest digit is stored, and the digits above it are left
+pub hex-more : (out : List ℕ) (at i n : ℕ) → sets (set out (at + i) (digitByte (n % 16))) at (hexText i (n / 16)) ≡ sets out at (hexText (suc i) n)
+unfolding hexText
+hex-more out at i n =
+    let h : List ℕ = hexText i (n / 16) in
+    sym (set-sets out at (at + i) (digitByte (n % 16)) h (omega (arith, hex-length i (n / 16))))
+    ∙ ap (λ (k : ℕ). set (sets out at h) (at + k) (digitByte (n % 16))) (sym (hex-length i (n / 16)))
+    ∙ sets-append out at h (digitByte (n % 16) ∷ [])
+
 pub power-more : (n i d : ℕ) → n < 16 ^ i → d < 16 → 16 * n + d < 16 ^ (i + 1)
 power-more n i d h l = rw (add-one i) (omega (arith, pow-suc 16 i))
 
@@ -96,6 +116,9 @@ wrote-both {out} {middle} {left} {s} {t} {at} {end} a b =
       ends = omega (arith, length-append s t);
       holds = b .holds ∙ ap (λ (x : List ℕ). sets x end t) (a .holds) ∙ ap (λ (k : ℕ). sets (sets out at s) k t) (a .ends) ∙ sets-append out at s t;
     }
+
+pub wrote-nothing : (out : List ℕ) (at : ℕ) → Wrote out at [] at out
+wrote-nothing out at = record { ends = omega arith; holds = refl }
 
 pub wrote-length : {out left s : List ℕ} {at end : ℕ} → Wrote out at s end left → length left ≡ length out
 wrote-length {out} {left} {s} {at} a = ap length (a .holds) ∙ length-sets out at s

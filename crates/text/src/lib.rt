@@ -57,7 +57,7 @@ pub fn digit(b: u8) -> u64
 
 // The number that the digits of s stand for.
 fn number(s: &[u8]) -> Digits
-    requires { ⌜ length (now s) ≤ 15 ⌝ }
+    requires { ⌜ length (now s) ≤ 16 ⌝ }
     ensures { λ r. ⌜ r ≡ numberOf 0 (now (s .entry)) ⌝ }
 {
     let mut n = 0u64;
@@ -75,7 +75,7 @@ fn number(s: &[u8]) -> Digits
 
 // So many digits of a number that is most or less.
 pub fn field(s: &[u8], count: usize, most: u64) -> Digits
-    requires { ⌜ count ≤ 15 ⌝ }
+    requires { ⌜ count ≤ 16 ⌝ }
     ensures { λ r. ⌜ r ≡ fieldOf count most (now (s .entry)) ⌝ }
 {
     if s.len() != count {
@@ -139,4 +139,19 @@ pub fn put(out: &mut [u8], at: usize, text: &[u8]) -> usize
         i += 1;
     }
     at + i
+}
+
+// Puts so many lowest digits of n into out from at on, and says where they end.
+pub fn put_hex(out: &mut [u8], at: usize, count: usize, n: u64) -> usize
+    requires { ⌜ at + count ≤ length (now out) ⌝ }
+    ensures { λ r. ⌜ Wrote (now (out .entry)) at (hexText count n) r (now (out .exit)) × (r ≡ at + count) ⌝ }
+{
+    let mut rest = n;
+    let mut i = count;
+    while 0 < i {
+        i -= 1;
+        out[at + i] = low_digit(rest);
+        rest = rest / 16;
+    }
+    at + count
 }

@@ -4,10 +4,10 @@ use mathlib.Core.Path.{_≡_, refl}
 use Prim.Native.Nat.{_+_, _-_, _≤_}
 use lib.ListN.{length, drop}
 use lib.Seq.{drop-length}
-use Rattle.logs.specs.Pieces.{newlineAt}
-use Rattle.logs.proofs.Laws.{newline-here, newline-later}
-use Rattle.logs.proofs.newline_at.Statement.{statement}
-use Rattle.logs.proofs.newline_at.Tie as tie
+use Rattle.pieces.specs.Pieces.{newlineAt}
+use Rattle.pieces.proofs.Laws.{newline-here, newline-later}
+use Rattle.pieces.proofs.newline_at.Statement.{statement}
+use Rattle.pieces.proofs.newline_at.Tie as tie
 
 abbrev Inv-loop : tie.InvT-loop
 Inv-loop piece i₀ i = (i ≤ length piece) × (newlineAt piece ≡ i + newlineAt (drop i piece))

@@ -1,0 +1,68 @@
+// The probe program: a state image and an event a line on standard input; the answer and the image after it on standard output.
+ghost use mathlib.Core.Path.{_≡_};
+ghost use Prim.Native.Nat.{_≤_};
+ghost use lib.ListN.{length};
+use images::Line;
+use libc::STDOUT_FILENO;
+
+// Writes the answers so far where there is no room for one more, and says where the next one goes.
+fn make_room(out: &[u8], end: usize) -> usize
+    requires { ⌜ end ≤ length (now out) ⌝ }
+    ensures { λ at. ⌜ at ≤ 65176 ⌝ }
+{
+    if end <= 65_176 {
+        return end;
+    }
+    io::write_all(STDOUT_FILENO, &out[0..end]);
+    0
+}
+
+// Every line that ends in this piece is answered; the rest of the piece begins the next line.
+fn answer_piece(line: Line, piece: &[u8], out: &mut [u8]) -> Line
+    requires { ⌜ (line .len ≤ 360) × (length (now out) ≡ 65536) ⌝ }
+    ensures { λ l. ⌜ l .len ≤ 360 ⌝ }
+{
+    let mut begun = line;
+    let mut rest = piece;
+    let mut newline = pieces::newline_at(rest);
+    let mut end = 0;
+    while newline < rest.len() {
+        let whole = images::grow(begun, &rest[0..newline]);
+        let at = make_room(&*out, end);
+        end = images::answer(whole, out, at);
+        begun = images::begin();
+        let next = newline + 1;
+        rest = &rest[next..];
+        newline = pieces::newline_at(rest);
+    }
+    io::write_all(STDOUT_FILENO, &out[0..end]);
+    images::grow(begun, rest)
+}
+
+// A last line without newline counts if it holds a byte.
+fn answer_last(line: Line, out: &mut [u8])
+    requires { ⌜ (line .len ≤ 360) × (length (now out) ≡ 65536) ⌝ }
+{
+    if 0 < line.len {
+        let end = images::answer(line, out, 0);
+        io::write_all(STDOUT_FILENO, &out[0..end]);
+    }
+}
+
+fn main() {
+    let mut piece = [0u8; 16384];
+    let mut out = [0u8; 65536];
+    let mut line = images::begin();
+    // a proved loop ends: it counts down from a number that no input uses up
+    let mut turns = u64::MAX;
+    while 0 < turns {
+        turns = turns - 1;
+        let got = libc::read(0, &mut piece);
+        let n = io::count(got, &piece);
+        if n == 0 {
+            answer_last(line, &mut out);
+            return;
+        }
+        line = answer_piece(line, &piece[0..n], &mut out);
+    }
+}
