@@ -21,7 +21,7 @@ enum {
     GHIXRAMEL_DONE = 0,
     GHIXRAMEL_BAD_KIND = 1,     /* event kind above 5 */
     GHIXRAMEL_BAD_ARGUMENT = 2, /* byte, acknowledge bit, levels, address choice or register number out of range */
-    GHIXRAMEL_BAD_IMAGE = 3,    /* the state is none that the device can be in */
+    GHIXRAMEL_BAD_IMAGE = 3,    /* broken: a number out of range, or an entry where none is stored */
     GHIXRAMEL_NO_QUIET_WAY = 4, /* no list of writes gets there without disturbing a pin */
     GHIXRAMEL_BAD_SETTING = 5,  /* start or goal not ten bytes, or its 5C over 7 */
     GHIXRAMEL_BUFFER_SMALL = 6  /* plan buffer under GHIXRAMEL_PLAN_BYTES */
@@ -60,7 +60,7 @@ enum {
 /* A setting is ten bytes, for the registers 04 05 06 0C 0D 0E 5C 70 71 72 in this order. */
 enum { GHIXRAMEL_SETTING_BYTES = 10, GHIXRAMEL_MOST_WRITES = 16, GHIXRAMEL_PLAN_BYTES = 32 };
 
-/* The same on the three arrays, for a host that lays out its state itself. */
+/* The functions on the three arrays, for a host that lays out its state itself; those on the struct come below. */
 uint32_t ghixramel_arrays_power_on(uint64_t pins[4], uint8_t registers[128], uint8_t bus[3], uint32_t choice, uint64_t levels);
 uint32_t ghixramel_arrays_step(uint64_t pins[4], uint8_t registers[128], uint8_t bus[3], uint32_t kind, uint64_t argument, uint8_t answer[2]);
 uint32_t ghixramel_arrays_drives(const uint64_t pins[4], const uint8_t registers[128], const uint8_t bus[3], uint64_t drives[2]);

@@ -1,6 +1,6 @@
 -- What is asked of the planner, byte by byte: a line START<tab>GOAL of lowercase hex digits, of any length.
-use mathlib.Core.Bool.{Bool, true, cond, not, _&&_}
-use mathlib.Core.List.{List}
+use mathlib.Core.Bool.{Bool, true, false, cond, not, _&&_}
+use mathlib.Core.List.{List, [], _∷_}
 use Prim.Native.Nat.{ℕ, _+_, _*_, _%_}
 use lib.Dec.{eqb, ltb}
 use lib.ListN.{set}
@@ -21,6 +21,13 @@ digitTaken f d = cond (eqb (f .high) 16) (field (f .bytes) (f .count) d) (byteTa
 
 abbrev pub reading : (start goal : Field) → (tabs : ℕ) → (bad : Bool) → Reading
 reading start goal tabs bad = record { start = start; goal = goal; tabs = tabs; bad = bad }
+
+-- Before the first byte of a line.
+abbrev pub nothing : Field
+nothing = field (0 ∷ 0 ∷ 0 ∷ 0 ∷ 0 ∷ 0 ∷ 0 ∷ 0 ∷ 0 ∷ 0 ∷ []) 0 16
+
+abbrev pub begun : Reading
+begun = reading nothing nothing 0 false
 
 -- A digit goes to its field.
 unfoldable pub withDigit : Reading → (d : ℕ) → Reading

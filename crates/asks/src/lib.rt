@@ -1,7 +1,7 @@
 // What is asked of the planner, taken byte by byte, so that a line of any length needs no more memory than a short one.
 ghost use mathlib.Core.Path.{_≡_};
 ghost use Prim.Native.Nat.{_<_};
-ghost use Rattle.asks.specs.Asks.{byteTaken, digitTaken, withDigit, taken, lineRefusal};
+ghost use Rattle.asks.specs.Asks.{begun, byteTaken, digitTaken, withDigit, taken, lineRefusal};
 
 // One field of the line: its first ten bytes, how many there are (11 for more), the digit that waits (16 for none).
 pub struct Field {
@@ -46,7 +46,9 @@ fn digit_taken(mut f: Field, d: u8) -> Field
 }
 
 // Before the first byte of a line.
-pub fn begin() -> Reading {
+pub fn begin() -> Reading
+    ensures { λ r. ⌜ r ≡ begun ⌝ }
+{
     let none = [0u8; 10];
     let empty = Field {
         bytes: none,

@@ -1,4 +1,4 @@
--- The device: its state, what each event does to it and answers, and which images, kinds and arguments are refused.
+-- The device: its state, what each event does to it, and what it answers.
 use mathlib.Core.Bool.{Bool, cond}
 use mathlib.Core.List.{[], _∷_}
 use Prim.Native.Nat.{ℕ, _+_, _*_}

@@ -15,28 +15,26 @@ use Rattle.device.specs.declared.Device.{Device}
 abbrev at-power-on : List ℕ → (choice levels : ℕ) → Device
 at-power-on file choice levels = record { file = file; sets = record { level = levels; reference = levels; held = 0; edge = 0 }; pointer = 0; bus = 0; choice = choice }
 
-not-made : (choice levels : ℕ) (d : Device) → makingRefused part24 choice levels ≡ 2 → imageFits part24 (stateIn d) ≡ false → MadeOf part24 choice levels 2 d
-not-made choice levels d e i = record { number = sym e; made = λ z. absurd (omega (arith, e, z)); none = λ z. i }
+module _ (file : List ℕ) (choice levels : ℕ) (e : file ≡ defaults part24) where
+  made-so : stateIn (at-power-on file choice levels) ≡ powerOn part24 choice levels
+  unfolding powerOn
+  made-so = same-state (same e refl) refl refl refl
 
-module _ (file : List ℕ) (choice levels : ℕ) where
+  not-made : makingRefused part24 choice levels ≡ 2 → imageFits part24 (stateIn (at-power-on file choice levels)) ≡ false → MadeOf part24 choice levels 2 (at-power-on file choice levels)
+  not-made q i = record { number = sym q; made = made-so; none = λ z. i }
+
   pub choice-over : 3 < choice → MadeOf part24 choice levels 2 (at-power-on file choice levels)
   unfolding imageFits reserved kindAt
-  choice-over h = not-made choice levels (at-power-on file choice levels) (simp (lt-leb choice 3 h)) (simp (le-ltb choice 4 h))
+  choice-over h = not-made (simp (lt-leb choice 3 h)) (simp (le-ltb choice 4 h))
 
   module _ (fits : choice < 4) where
     pub levels-over : 0xff_ffff < levels → MadeOf part24 choice levels 2 (at-power-on file choice levels)
     unfolding imageFits setsFit reserved kindAt
     levels-over h =
-        not-made choice levels (at-power-on file choice levels) (simp (le-leb choice 3 (omega arith), le-ltb levels (2 ^ 24) h))
-        (simp (lt-ltb choice 4 fits, le-ltb levels (2 ^ 24) h))
+        not-made (simp (le-leb choice 3 (omega arith), le-ltb levels (2 ^ 24) h)) (simp (lt-ltb choice 4 fits, le-ltb levels (2 ^ 24) h))
 
-    pub power-made : file ≡ defaults part24 → levels < 2 ^ 24 → MadeOf part24 choice levels 0 (at-power-on file choice levels)
-    unfolding powerOn
-    power-made e h = record {
-      number = simp (le-leb choice 3 (omega arith), lt-ltb levels (2 ^ 24) h);
-      made = λ z. same-state (same e refl) refl refl refl;
-      none = λ z. absurd (omega (arith, z, given));
-    }
+    pub power-made : levels < 2 ^ 24 → MadeOf part24 choice levels 0 (at-power-on file choice levels)
+    power-made h = record { number = given; made = made-so; none = λ z. absurd (omega (arith, z, given)) }
       where
-        given : makingRefused part24 choice levels ≡ 0
+        given : _≡_ {A = ℕ} 0 (makingRefused part24 choice levels)
         given = simp (le-leb choice 3 (omega arith), lt-ltb levels (2 ^ 24) h)

@@ -26,5 +26,5 @@ makingRefused p choice levels = cond (leb choice 3 && ltb levels (2 ^ p .width))
 -- what making a device gives: the refusal's number, and the device at power-on or, refused, one that every step refuses
 pub record MadeOf (p : Part) (choice levels : ℕ) (refusal : ℕ) (d : Device) : Type 0 where
   pub number : refusal ≡ makingRefused p choice levels
-  pub made : makingRefused p choice levels ≡ 0 → stateIn d ≡ powerOn p choice levels
+  pub made : stateIn d ≡ powerOn p choice levels
   pub none : makingRefused p choice levels ≡ 2 → imageFits p (stateIn d) ≡ false

@@ -1,6 +1,6 @@
 // The planner: from a start to a goal for the ten registers that set direction, output level and output kind.
 ghost use mathlib.Core.Path.{_≡_};
-ghost use mathlib.Core.Bool.{_&&_, true};
+ghost use mathlib.Core.Bool.{cond, _&&_};
 ghost use Prim.Native.Nat.{ℕ, _/_, _%_, _<_, _≤_};
 ghost use lib.ListN.{length, getD};
 ghost use Rattle.bits.specs.Bits.{bit, tabulate};
@@ -239,8 +239,8 @@ pub fn plan(start: &[u8], goal: &[u8], buf: &mut [u8]) -> Planned
 
 // The pins that are stuck, for whoever explains a refusal 4; none where a start or goal is malformed.
 pub fn stuck_pins(start: &[u8], goal: &[u8]) -> u64
-    ensures { λ r. ⌜ ((formed (now (start .entry)) && formed (now (goal .entry))) ≡ true → (i : ℕ) → i < 24
-        → bit r i ≡ stuck (bitsOf shape24 (now (start .entry)) (i / 8) (i % 8)) (bitsOf shape24 (now (goal .entry)) (i / 8) (i % 8))) ⌝ }
+    ensures { λ r. ⌜ r ≡ cond (formed (now (start .entry)) && formed (now (goal .entry)))
+        (tabulate 24 (λ i. stuck (bitsOf shape24 (now (start .entry)) (i / 8) (i % 8)) (bitsOf shape24 (now (goal .entry)) (i / 8) (i % 8)))) 0 ⌝ }
 {
     if !is_formed(start) {
         return 0;

@@ -10,7 +10,7 @@ use Rattle.pins.specs.Pin.{Source, Pin, only}
 use Rattle.pins.specs.AllPins.{Within, pinAt, mapPins}
 use Rattle.pins.specs.OnePin.{Registers, Happening, pinAfter}
 use Rattle.pins.specs.OnePin.Happening.{OutputWritten, PolarityWritten, PinKindWritten, Elsewhere}
-use Rattle.ports.specs.Ports.{inPort, portBit}
+use Rattle.ports.specs.Ports.{portBit}
 use Rattle.pins.specs.declared.Sets.{Sets}
 use Rattle.pins.proofs.AllPins.{mapped, map-ext}
 use Rattle.map.specs.Map.{Kind, part24, firstOf, kindAt, code, stored}

@@ -1,4 +1,4 @@
-// The register file and the pins: reading, writing and fetching a register, and what the pins drive and show.
+// The register file and the pins: what the file says of each pin, and what writing a register does.
 ghost use mathlib.Core.Path.{_≡_};
 ghost use mathlib.Core.Bool.{cond, _||_};
 ghost use Prim.Native.Nat.{ℕ, _+_, _/_, _<_, _≤_, _^_};

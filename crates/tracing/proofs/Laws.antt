@@ -43,14 +43,7 @@ module _ (file : List ℕ) (d : Desk) (kind arg : ℕ) where
   unfolding traced
   event-refused h = rw h
 
--- a line's numbers are never refused
-pub made-whole : {choice levels refusal : ℕ} {d : Device} → choice ≤ 3 → levels ≤ 0xff_ffff → MadeOf part24 choice levels refusal d → stateIn d ≡ powerOn part24 choice levels
-made-whole {choice} {levels} c l m = m .made (rw (le-leb choice 3 c, lt-ltb levels 16777216 (omega (arith, l))))
-
 module _ (x : Session) (said : Line) (line : List ℕ) (read : said ≡ lineOf line) where
-  pub device-fits : {choice levels : ℕ} → said ≡ MadeLine choice levels → (choice ≤ 3) × (levels ≤ 0xff_ffff)
-  device-fits {choice} {levels} e = line-makes line .makes choice levels (sym read ∙ e)
-
   pub device-told : {choice levels : ℕ} → said ≡ MadeLine choice levels → told (out Nothing (powerOn part24 choice levels)) ≡ traced x (lineOf line)
   unfolding traced
   device-told e = rw (← read, e)

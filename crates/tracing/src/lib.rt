@@ -50,7 +50,7 @@ fn tell(file: &[u8; 128], rest: Rest, answer: Answer, out: &mut [u8], at: usize)
 
 // A device anew.
 fn make(file: &mut [u8; 128], choice: u8, levels: u64, out: &mut [u8], at: usize) -> Told
-    requires { ⌜ (at + 26 ≤ length (now out)) × (choice ≤ 3) × (levels ≤ 0xff_ffff) ⌝ }
+    requires { ⌜ at + 26 ≤ length (now out) ⌝ }
     ensures { λ r. ⌜ Says (told (outcome Nothing (powerOn part24 choice levels))) (now (out .entry)) at (r .end) (now (out .exit)) (now (file .exit)) (r .desk) ⌝ }
 {
     let made = Device::power_on(choice, levels);

@@ -57,7 +57,7 @@ fn inputs(file: &[u8; 128], x: Sets) -> u64
 }
 
 // The pins whose status bit is 1.
-pub fn statuses(file: &[u8; 128], x: Sets) -> u64
+fn statuses(file: &[u8; 128], x: Sets) -> u64
     ensures { λ s. ⌜ ((i : ℕ) → i < 24 → bit s i ≡ statusOf (onePin part24 (core (now (file .entry)) x) i)) × (s < 2 ^ 24) ⌝ }
 {
     // a field that asks for something counts, whatever it asks for

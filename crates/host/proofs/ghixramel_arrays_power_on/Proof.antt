@@ -36,7 +36,7 @@ returns-3 c =
     let n : x .choice % 4 ≡ x .choice = mod-eq-of-lt (omega (arith, last .before .before .before .if1 .left)) in
     let zero = sym (given .number) ∙ last .if2 .left in
     made _ _ _ _ (ap (λ (k : ℕ). makingRefused part24 k (x .levels)) (sym n) ∙ zero)
-    (ap (stateOf _) (c .keep .ensures) ∙ given .made zero ∙ ap (λ (k : ℕ). powerOn part24 k (x .levels)) n)
+    (ap (stateOf _) (c .keep .ensures) ∙ given .made ∙ ap (λ (k : ℕ). powerOn part24 k (x .levels)) n)
 
 pub ghixramel-arrays-power-on-spec : {M : Type 1} → statement M
 ghixramel-arrays-power-on-spec = tie.close (tie.spec returns cast-power-on power-on-requires returns-2 keep-requires returns-3)

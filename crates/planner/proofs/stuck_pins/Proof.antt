@@ -1,8 +1,6 @@
 use borrow.Author.Needs.{needs}
-use mathlib.Core.Path.{ap, _∙_}
-use mathlib.Core.Bool.{Bool, _&&_}
-use Rattle.bits.proofs.Decide.{clash}
-use Rattle.planner.specs.Answer.{formed}
+use mathlib.Core.Path.{_∙_}
+use Rattle.bits.proofs.Laws.{tabulated}
 use Rattle.planner.proofs.Answering.{fails, holds, whole, kinds}
 use Rattle.planner.proofs.Ports.{stuck-bit}
 use Rattle.planner.proofs.stuck_pins.Statement.{statement}
@@ -13,19 +11,17 @@ is-formed-requires c κs = search needs
 
 returns : tie.Need-returns
 returns c =
-    let x = c .before .before .before .before .args in
     let bad = fails (c .before .is-formed .ensures) (c .if1 .taken) in
-    λ e. clash (formed (x .start .now) && formed (x .goal .now)) e (ap (λ (b : Bool). b && formed (x .goal .now)) bad)
+    simp bad
 
 is-formed-requires-2 : tie.Need-is-formed-requires-2
 is-formed-requires-2 c κs = search needs
 
 returns-2 : tie.Need-returns-2
 returns-2 c =
-    let x = c .before .before .before .before .before .before .args in
     let good = holds (c .before .before .before .is-formed .ensures) (c .before .before .if1 .left) in
     let bad = fails (c .before .is-formed2 .ensures) (c .if2 .taken) in
-    λ e. clash (formed (x .start .now) && formed (x .goal .now)) e (ap (λ (b : Bool). b && formed (x .goal .now)) good ∙ bad)
+    simp (good, bad)
 
 port-stuck-requires : tie.Need-port-stuck-requires
 port-stuck-requires c κs =
@@ -58,8 +54,11 @@ returns-3 : tie.Need-returns-3
 returns-3 c =
     let a = c .before in
     let x = a .before .before .before .before .before .before .before .before .before .args in
-    λ e i h. c .join3 .ensures .0 i h ∙ stuck-bit (x .start .now) (x .goal .now) (a .before .before .port-stuck .result) (a .before .port-stuck2 .result) (a .port-stuck3 .result)
-    (a .before .before .port-stuck .ensures) (a .before .port-stuck2 .ensures) (a .port-stuck3 .ensures) i h
+    let e = a .before .before .before in
+    simp (holds (e .before .before .before .is-formed .ensures) (e .before .before .if1 .left), holds (e .before .is-formed2 .ensures) (e .if2 .left))
+    (tabulated 24 (c .join3 .ensures .1) (λ i h.
+    c .join3 .ensures .0 i h ∙ stuck-bit (x .start .now) (x .goal .now) (a .before .before .port-stuck .result) (a .before .port-stuck2 .result) (a .port-stuck3 .result)
+    (a .before .before .port-stuck .ensures) (a .before .port-stuck2 .ensures) (a .port-stuck3 .ensures) i h))
 
 pub stuck-pins-spec : {M : Type 1} → statement M
 stuck-pins-spec =

@@ -1,6 +1,5 @@
 use borrow.Author.Needs.{needs}
-use Rattle.tracing.specs.Tracing.{sessionOf}
-use Rattle.tracing.proofs.Laws.{says-as, device-fits, device-told, event-said, unreadable-said}
+use Rattle.tracing.proofs.Laws.{says-as, device-told, event-said, unreadable-said}
 use Rattle.tracing.proofs.answer_line.Statement.{statement}
 use Rattle.tracing.proofs.answer_line.Tie as tie
 
@@ -11,12 +10,7 @@ enum-known-said : tie.Need-enum-known-said
 enum-known-said c = search needs
 
 make-requires : tie.Need-make-requires
-make-requires c κs =
-    let s = c .before .before .before in
-    let r = s .before .before in
-    let x = r .before .before .before .args in
-    let fits = device-fits (sessionOf (x .file .now) (x .desk)) _ (x .line .now) (r .read .ensures) (s .said .given .1) in
-    (search needs, fits .0, fits .1)
+make-requires c κs = search needs
 
 enum-known-said-2 : tie.Need-enum-known-said-2
 enum-known-said-2 c = search needs

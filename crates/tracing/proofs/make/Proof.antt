@@ -3,7 +3,7 @@ use mathlib.Core.Path.{ap}
 use Rattle.bus.specs.Device.{State, out}
 use Rattle.bus.specs.declared.Answer.the-variants.{Nothing}
 use Rattle.tracing.specs.Tracing.{told}
-use Rattle.tracing.proofs.Laws.{says-as, made-whole}
+use Rattle.tracing.proofs.Laws.{says-as}
 use Rattle.tracing.proofs.make.Statement.{statement}
 use Rattle.tracing.proofs.make.Tie as tie
 
@@ -20,8 +20,7 @@ returns : tie.Need-returns
 returns c =
     let p = c .before .before in
     let made = p .before .before .before .before .before .before in
-    let fits = made .before .before .pre in
-    says-as (ap (λ (s : State). told (out Nothing s)) (made-whole (fits .1) (fits .2) (made .power-on .ensures))) (p .tell .ensures)
+    says-as (ap (λ (s : State). told (out Nothing s)) (made .power-on .ensures .made)) (p .tell .ensures)
 
 pub make-spec : {M : Type 1} → statement M
 make-spec = tie.close (tie.spec power-on-requires tell-requires same-length returns)
