@@ -1,7 +1,7 @@
 // The planner: from a start to a goal for the ten registers that set direction, output level and output kind.
 ghost use mathlib.Core.Path.{_≡_};
 ghost use mathlib.Core.Bool.{cond, _&&_};
-ghost use Prim.Native.Nat.{ℕ, _/_, _%_, _<_, _≤_};
+ghost use Prim.Native.Nat.{_/_, _%_, _<_, _≤_};
 ghost use lib.ListN.{length, getD};
 ghost use Rattle.bits.specs.Bits.{bit, tabulate};
 ghost use Rattle.quiet.specs.Settings.{shape24, bitsOf};

@@ -1,10 +1,8 @@
 -- What the code's cases say of a line. Assumes nothing.
-use mathlib.Core.Path.{_≡_, sym, _∙_}
+use mathlib.Core.Path.{_≡_}
 use mathlib.Core.Bool.{Bool, true, false}
 use mathlib.Core.List.{List}
 use Prim.Native.Nat.{ℕ, _≤_}
-use native.Mathlib.Omega.{arith}
-use borrow.Author.Tests.{le-leb, lt-ltb}
 use lib.ListN.{length}
 use Rattle.map.specs.Map.{part24}
 use Rattle.registers.specs.Registers.{drivenLow, drivenHigh, intAsserted}
@@ -13,12 +11,10 @@ use Rattle.bus.specs.Held.{stateOf}
 use Rattle.bus.specs.declared.Answer.{Answer}
 use Rattle.bus.specs.declared.Answer.the-variants.{Nothing, Refused}
 use Rattle.device.specs.Refusals.{stepped}
-use Rattle.device.specs.PowerOn.{stateIn, powerOn, MadeOf}
-use Rattle.device.specs.declared.Device.{Device}
+use Rattle.device.specs.PowerOn.{powerOn}
 use Rattle.lines.specs.declared.Line.{Line}
 use Rattle.lines.specs.declared.Line.the-variants.{Event, Unreadable, Device as MadeLine}
 use Rattle.lines.specs.Lines.{lineOf}
-use Rattle.lines.proofs.Laws.{line-makes}
 use Rattle.answers.specs.Answers.{answerLine}
 use Rattle.answers.proofs.Laws.{line-short}
 use Rattle.tracing.specs.declared.Desk.{Desk}
