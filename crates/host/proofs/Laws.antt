@@ -3,7 +3,7 @@ use mathlib.Core.Path.{_≡_, refl, sym, ap, ap₂, subst, _∙_}
 use mathlib.Core.Bool.{Bool, true, false, cond, _&&_}
 use mathlib.Core.List.{List, [], _∷_}
 use Prim.Native.Nat.{ℕ, _^_, _<_}
-use borrow.Author.Tests.{le-ltb, lt-leb, eq-eqb, ne-eqb}
+use borrow.Author.Tests.{le-ltb, lt-leb}
 use lib.Dec.{eqb, leb, ltb}
 use lib.ListN.{length}
 use Rattle.bits.proofs.Decide.{clash}
@@ -24,17 +24,6 @@ use Rattle.planner.specs.Answer.Answer.{refuse, give}
 use Rattle.planner.specs.Promise.{Promise}
 use Rattle.planner.specs.declared.Planned.{Planned}
 use Rattle.host.specs.Arrays.{Told, Made, Seen, Shown, intOf, planNumber, writesAfter, plannedAs}
-
--- what is told of an answer: a refusal leaves it
-module _ (a : Answer) (before : List ℕ) where
-  abbrev After : List ℕ
-  After = cond (eqb (answerKind a) 4) before (answerKind a ∷ answerByte a ∷ [])
-
-  pub answer-kept : answerKind a ≡ 4 → before ≡ After
-  answer-kept e = simp (eq-eqb (answerKind a) 4 e)
-
-  pub answer-told : {kind byte : ℕ} → kind ≡ answerKind a → byte ≡ answerByte a → (kind ≡ 4 → ⊥) → kind ∷ byte ∷ [] ≡ After
-  answer-told e q h = ap₂ (λ (k b : ℕ). k ∷ b ∷ []) e q ∙ simp (ne-eqb (answerKind a) 4 (λ z. h (e ∙ z)))
 
 -- the outcome of a step, told in numbers
 pub told-of : (q : Outcome) (a : Answer) (s after : State) (n : ℕ) (before told : List ℕ) → out a s ≡ q → after ≡ s → n ≡ refusalNumber a

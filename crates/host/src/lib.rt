@@ -43,55 +43,29 @@ fn keep(r: Rest, pins: &mut [u64; 4], line: &mut [u8; 3])
     *line = [r.pointer, r.bus, r.choice];
 }
 
-// An answer as plain numbers. Each is a choice between values, so that no jump depends on the answer.
-fn kind_number(answer: Answer) -> u8
-    ensures { λ r. ⌜ r ≡ answerKind answer ⌝ }
-{
-    match answer {
-        Answer::Nothing => 0,
-        Answer::Ack => 1,
-        Answer::Nak => 2,
-        Answer::Byte(_) => 3,
-        Answer::Refused(_) => 4,
-    }
-}
-
-fn byte_number(answer: Answer) -> u8
-    ensures { λ r. ⌜ r ≡ answerByte answer ⌝ }
-{
-    match answer {
-        Answer::Byte(b) => b,
-        Answer::Nothing => 0,
-        Answer::Ack => 0,
-        Answer::Nak => 0,
-        Answer::Refused(_) => 0,
-    }
-}
-
-fn refusal_number(answer: Answer) -> u8
-    ensures { λ r. ⌜ r ≡ refusalNumber answer ⌝ }
-{
-    match answer {
-        Answer::Refused(n) => n,
-        Answer::Nothing => 0,
-        Answer::Ack => 0,
-        Answer::Nak => 0,
-        Answer::Byte(_) => 0,
-    }
-}
-
 // An answer as its kind and its byte; a refusal as its number alone.
 fn tell(answer: Answer, told: &mut [u8; 2]) -> u32
     ensures { λ r. ⌜ (r ≡ refusalNumber answer)
         × (now (told .exit) ≡ cond (eqb (answerKind answer) 4) (now (told .entry)) (answerKind answer ∷ answerByte answer ∷ [])) ⌝ }
 {
-    let kind = kind_number(answer);
-    let number = refusal_number(answer);
-    if kind == 4 {
-        return number as u32;
+    match answer {
+        Answer::Nothing => {
+            *told = [0, 0];
+        }
+        Answer::Ack => {
+            *told = [1, 0];
+        }
+        Answer::Nak => {
+            *told = [2, 0];
+        }
+        Answer::Byte(b) => {
+            *told = [3, b];
+        }
+        Answer::Refused(n) => {
+            return n as u32;
+        }
     }
-    *told = [kind, byte_number(answer)];
-    number as u32
+    0
 }
 
 // One event.

@@ -1,42 +1,40 @@
 use borrow.Author.Needs.{needs}
-use mathlib.Core.Path.{sym, _∙_}
-use Rattle.host.proofs.Laws.{answer-kept, answer-told}
+use mathlib.Core.Path.{refl}
 use Rattle.host.proofs.tell.Statement.{statement}
 use Rattle.host.proofs.tell.Tie as tie
 
-kind-number-requires : tie.Need-kind-number-requires
-kind-number-requires c κs = search needs
+enum-told : tie.Need-enum-told
+enum-told c = search needs
 
-refusal-number-requires : tie.Need-refusal-number-requires
-refusal-number-requires c κs = search needs
+enum-told-2 : tie.Need-enum-told-2
+enum-told-2 c = search needs
+
+enum-told-3 : tie.Need-enum-told-3
+enum-told-3 c = search needs
+
+enum-known-answer : tie.Need-enum-known-answer
+enum-known-answer c = search needs
+
+enum-known-answer-2 : tie.Need-enum-known-answer-2
+enum-known-answer-2 c = search needs
 
 cast-result : tie.Need-cast-result
 cast-result c = search needs
 
 returns : tie.Need-returns
-returns c =
-    let numbers = c .before in
-    (numbers .refusal-number .ensures, answer-kept (numbers .before .before .args .answer) (numbers .before .before .args .told .now) (sym (numbers .before .kind-number .ensures) ∙ c .if1 .taken))
-
-byte-number-requires : tie.Need-byte-number-requires
-byte-number-requires c κs = search needs
-
-cast-result-2 : tie.Need-cast-result-2
-cast-result-2 c = search needs
+returns c = rw (c .before .answer2 .given .1) (refl, refl)
 
 returns-2 : tie.Need-returns-2
-returns-2 c =
-    let numbers = c .before .before .before in
-    (numbers .refusal-number .ensures, answer-told (numbers .before .before .args .answer) (numbers .before .before .args .told .now) (numbers .before .kind-number .ensures) (c .before .byte-number .ensures) (c .before .before .if1 .left))
+returns-2 c = rw (c .before .enum-told .given .1) (refl, refl)
+
+returns-3 : tie.Need-returns-3
+returns-3 c = rw (c .before .enum-told2 .given .1) (refl, refl)
+
+returns-4 : tie.Need-returns-4
+returns-4 c = rw (c .before .enum-told3 .given .1) (refl, refl)
+
+returns-5 : tie.Need-returns-5
+returns-5 c = rw (c .before .before .answer .given .1) (refl, refl)
 
 pub tell-spec : {M : Type 1} → statement M
-tell-spec =
-    tie.close
-    (tie.spec
-    kind-number-requires
-    refusal-number-requires
-    cast-result
-    returns
-    byte-number-requires
-    cast-result-2
-    returns-2)
+tell-spec = tie.close (tie.spec enum-told enum-told-2 enum-told-3 enum-known-answer enum-known-answer-2 cast-result returns returns-2 returns-3 returns-4 returns-5)
