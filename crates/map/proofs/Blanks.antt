@@ -2,16 +2,16 @@
 use mathlib.Core.Path.{_≡_, refl, sym, ap, ap₂, _∙_}
 use mathlib.Core.Bool.{Bool, true, false, _&&_}
 use mathlib.Core.List.{List}
-use Prim.Native.Nat.{ℕ, zero, suc, _+_, _*_, _<_, _≤_}
+use Prim.Native.Nat.{ℕ, zero, suc, _+_, _*_, _^_, _<_, _≤_}
 use native.Mathlib.Nat.{add-zero, zero-add, suc-add, mul-zero, mul-comm, le-mul-of-pos-right}
 use native.Mathlib.Omega.{arith}
-use borrow.Author.Tests.{eqb-true, ne-eqb, eqb-false, eq-eqb}
+use borrow.Author.Tests.{eqb-true, ne-eqb, eqb-false, eq-eqb, lt-ltb, le-ltb, ltb-true, ltb-false}
 use lib.Bits.{bitOr, or-add-and, and-le-r, or-zero-l}
 use lib.Dec.{eqb, ltb}
 use lib.ListN.{getD}
 use Rattle.bits.proofs.Decide.{taut}
 use Rattle.map.specs.Map.{part24, kindAt, fitting, fileFits}
-use Rattle.map.specs.Blank.{blank, firstHalf, belowKind, aboveKind}
+use Rattle.map.specs.Blank.{blank, topsBlank, firstHalf, belowKind, aboveKind}
 
 -- both are 0 exactly if no bit is set in either
 pub or-zero : (a b : ℕ) → eqb (bitOr a b) 0 ≡ (eqb a 0 && eqb b 0)
@@ -60,9 +60,17 @@ one-blank file a = sym (and-true (eqb (getD file a 0) 0))
     and-true : (b : Bool) → (b && true) ≡ b
     and-true = taut 1 _ _ tt
 
-pub three-blank : (file : List ℕ) (a b c : ℕ)
-    → eqb (bitOr (bitOr (getD file a 0) (getD file b 0)) (getD file c 0)) 0 ≡ ((blank file a 1 && blank file b 1) && blank file c 1)
-three-blank file a b c = simp (or-zero, one-blank file a, one-blank file b, one-blank file c)
+-- the top of two bytes, and of two words of two bytes
+pub top-of-two : (x y : ℕ) → x < 2 ^ 8 → ltb (x + 0x100 * y) (2 ^ 8) ≡ eqb y 0
+top-of-two x zero h = lt-ltb (x + 0x100 * 0) (2 ^ 8) (omega arith)
+top-of-two x (suc y) h = le-ltb (x + 0x100 * suc y) (2 ^ 8) (omega arith) ∙ sym (ne-eqb (suc y) 0 (λ z. omega (arith, z)))
+
+pub top-of-four : (x y : ℕ) → x < 2 ^ 16 → ltb (x + 0x1_0000 * y) (2 ^ 24) ≡ ltb y (2 ^ 8)
+top-of-four x y h = go (ltb y (2 ^ 8)) refl
+  where
+    go : (t : Bool) → ltb y (2 ^ 8) ≡ t → ltb (x + 0x1_0000 * y) (2 ^ 24) ≡ t
+    go true e = lt-ltb (x + 0x1_0000 * y) (2 ^ 24) (omega (arith, ltb-true y (2 ^ 8) e))
+    go false e = le-ltb (x + 0x1_0000 * y) (2 ^ 24) (omega (arith, ltb-false y (2 ^ 8) e))
 
 -- each of the n entries from a on is 0, and the rest holds
 unfoldable blankThen : List ℕ → (a n : ℕ) → Bool → Bool
@@ -80,33 +88,45 @@ blank-then file a (suc n) rest =
     and-flat = taut 3 _ _ tt
 
 module _ (file : List ℕ) where
-  -- one part, then the rest
-  six : (a b c d e f rest : Bool) → (a && (b && (c && (d && (e && (f && rest)))))) ≡ ((((a && ((b && c) && d)) && e) && f) && rest)
-  six = taut 7 _ _ tt
+  -- the parts of each stretch, then the rest: those that stand alone, and the others
+  abbrev alone₁ : Bool
+  alone₁ = (blank file 0x07 1 && blank file 0x0b 1) && blank file 0x0f 1
 
-  seven : (a b c d e f g rest : Bool) → (a && (b && (c && (d && (e && (f && (g && rest))))))) ≡ (((((((a && e) && f) && b) && c) && d) && g) && rest)
-  seven = taut 8 _ _ tt
+  abbrev alone₂ : Bool
+  alone₂ = ((blank file 0x4b 1 && blank file 0x4f 1) && blank file 0x53 1) && blank file 0x57 1
+
+  abbrev alone₃ : Bool
+  alone₃ = blank file 0x73 1 && blank file 0x77 1
 
   first-then : (rest : Bool)
       → blankThen file 0x00 4 (blankThen file 0x07 1 (blankThen file 0x0b 1 (blankThen file 0x0f 1 (blankThen file 0x10 24 (blankThen file 0x28 24 rest)))))
-      ≡ (firstHalf file && rest)
+      ≡ ((alone₁ && firstHalf file) && rest)
   unfolding firstHalf
   first-then rest =
-      simp blank-then (six (blank file 0x00 4) (blank file 0x07 1) (blank file 0x0b 1) (blank file 0x0f 1) (blank file 0x10 24) (blank file 0x28 24) rest)
+      simp blank-then (regroup (blank file 0x00 4) (blank file 0x07 1) (blank file 0x0b 1) (blank file 0x0f 1) (blank file 0x10 24) (blank file 0x28 24) rest)
+    where
+      regroup : (a b c d e f rest : Bool) → (a && (b && (c && (d && (e && (f && rest)))))) ≡ ((((b && c) && d) && ((a && e) && f)) && rest)
+      regroup = taut 7 _ _ tt
 
   below-then : (rest : Bool)
       → blankThen file 0x46 2 (blankThen file 0x4b 1 (blankThen file 0x4f 1 (blankThen file 0x53 1 (blankThen file 0x57 1 (blankThen file 0x58 4 rest)))))
-      ≡ (belowKind file && rest)
+      ≡ ((alone₂ && belowKind file) && rest)
   unfolding belowKind
   below-then rest =
-      simp blank-then (six (blank file 0x46 2) (blank file 0x4b 1) (blank file 0x4f 1) (blank file 0x53 1) (blank file 0x57 1) (blank file 0x58 4) rest)
+      simp blank-then (regroup (blank file 0x46 2) (blank file 0x4b 1) (blank file 0x4f 1) (blank file 0x53 1) (blank file 0x57 1) (blank file 0x58 4) rest)
+    where
+      regroup : (a b c d e f rest : Bool) → (a && (b && (c && (d && (e && (f && rest)))))) ≡ (((((b && c) && d) && e) && (a && f)) && rest)
+      regroup = taut 7 _ _ tt
 
   above-then : (rest : Bool)
       → blankThen file 0x5d 1 (blankThen file 0x5e 2 (blankThen file 0x66 2 (blankThen file 0x68 8 (blankThen file 0x73 1 (blankThen file 0x77 1 (blankThen file 0x78 8 rest))))))
-      ≡ (aboveKind file && rest)
+      ≡ ((alone₃ && aboveKind file) && rest)
   unfolding aboveKind
   above-then rest =
-      simp blank-then (seven (blank file 0x5d 1) (blank file 0x5e 2) (blank file 0x66 2) (blank file 0x68 8) (blank file 0x73 1) (blank file 0x77 1) (blank file 0x78 8) rest)
+      simp blank-then (regroup (blank file 0x5d 1) (blank file 0x5e 2) (blank file 0x66 2) (blank file 0x68 8) (blank file 0x73 1) (blank file 0x77 1) (blank file 0x78 8) rest)
+    where
+      regroup : (a b c d e f g rest : Bool) → (a && (b && (c && (d && (e && (f && (g && rest))))))) ≡ (((e && f) && ((((a && b) && c) && d) && g)) && rest)
+      regroup = taut 8 _ _ tt
 
   abbrev kindFits : Bool
   kindFits = ltb (getD file 0x5c 0) 8
@@ -120,18 +140,25 @@ module _ (file : List ℕ) where
   unfolding fileFits fitting kindAt blankThen
   runs = refl
 
-  -- what the code tests: no bit is set in any of them, and the output port kind is below 8
-  fits-runs : fileFits part24 file ≡ (((firstHalf file && belowKind file) && aboveKind file) && kindFits)
+  -- what the code tests: the tops, no bit set in any other, and the output port kind below 8
+  fits-runs : fileFits part24 file ≡ (topsBlank file && (((firstHalf file && belowKind file) && aboveKind file) && kindFits))
+  unfolding topsBlank
   fits-runs =
-      runs ∙ simp (first-then, below-then, above-then) (regroup (firstHalf file) (belowKind file) kindFits (aboveKind file))
+      runs ∙ simp (first-then, below-then, above-then) (regroup alone₁ (firstHalf file) alone₂ (belowKind file) kindFits alone₃ (aboveKind file))
     where
-      regroup : (p q k r : Bool) → (p && (q && (k && (r && true)))) ≡ (((p && q) && r) && k)
-      regroup = taut 4 _ _ tt
+      regroup : (p a q b k r c : Bool) → ((p && a) && ((q && b) && (k && ((r && c) && true)))) ≡ (((p && q) && r) && (((a && b) && c) && k))
+      regroup = taut 7 _ _ tt
 
-  -- the verdict from the bits that were gathered
-  module _ (bits : ℕ) (e : eqb bits 0 ≡ ((firstHalf file && belowKind file) && aboveKind file)) where
+  pub topped : topsBlank file ≡ false → false ≡ fileFits part24 file
+  topped e = sym (fits-runs ∙ ap (λ (b : Bool). b && (((firstHalf file && belowKind file) && aboveKind file) && kindFits)) e)
+
+  -- the verdict from the tops and from the bits that were gathered
+  module _ (fine : topsBlank file ≡ true) (bits : ℕ) (e : eqb bits 0 ≡ ((firstHalf file && belowKind file) && aboveKind file)) where
+    verdict : {t : Bool} → eqb bits 0 ≡ t → fileFits part24 file ≡ (t && kindFits)
+    verdict q = fits-runs ∙ ap₂ (λ (s t : Bool). s && (t && kindFits)) fine (sym e ∙ q)
+
     pub unfit : (bits ≡ 0 → ⊥) → false ≡ fileFits part24 file
-    unfit h = sym (fits-runs ∙ ap (λ (b : Bool). b && kindFits) (sym e ∙ ne-eqb bits 0 h))
+    unfit h = sym (verdict (ne-eqb bits 0 h))
 
     pub fit : bits ≡ 0 → kindFits ≡ fileFits part24 file
-    fit h = sym (fits-runs ∙ ap (λ (b : Bool). b && kindFits) (sym e ∙ eq-eqb bits 0 h))
+    fit h = sym (verdict (eq-eqb bits 0 h))

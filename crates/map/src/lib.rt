@@ -1,12 +1,11 @@
 // The register map in code: a hex digit for each number, number 00 rightmost in row 0. A match on numbers becomes a read-only table.
 ghost use mathlib.Core.Path.{_≡_};
-ghost use mathlib.Core.Bool.{_&&_};
 ghost use Prim.Native.Nat.{_+_, _*_, _/_, _^_, _<_, _≤_};
 ghost use lib.Bits.{bitAnd};
-ghost use lib.Dec.{eqb};
+ghost use lib.Dec.{eqb, ltb};
 ghost use lib.ListN.{getD};
 ghost use Rattle.map.specs.Map.{part24, kindAt, code, next, reserved, defaults, fileFits};
-ghost use Rattle.map.specs.Blank.{blank, firstHalf, belowKind, aboveKind};
+ghost use Rattle.map.specs.Blank.{blank, topsBlank, firstHalf, belowKind, aboveKind};
 ghost use Rattle.map.specs.Rows.{kinds, backs};
 
 // The kinds, sixteen to a row.
@@ -122,14 +121,14 @@ fn one(file: &[u8; 128], a: usize) -> u64
 
 fn two(file: &[u8; 128], a: usize) -> u64
     requires { ⌜ a + 2 ≤ 128 ⌝ }
-    ensures { λ r. ⌜ (eqb r 0 ≡ blank (now (file .entry)) a 2) × (r < 2 ^ 16) ⌝ }
+    ensures { λ r. ⌜ (eqb r 0 ≡ blank (now (file .entry)) a 2) × (r < 2 ^ 16) × (ltb r (2 ^ 8) ≡ blank (now (file .entry)) (a + 1) 1) ⌝ }
 {
     one(file, a) + 0x100 * one(file, a + 1)
 }
 
 fn four(file: &[u8; 128], a: usize) -> u64
     requires { ⌜ a + 4 ≤ 128 ⌝ }
-    ensures { λ r. ⌜ (eqb r 0 ≡ blank (now (file .entry)) a 4) × (r < 2 ^ 32) ⌝ }
+    ensures { λ r. ⌜ (eqb r 0 ≡ blank (now (file .entry)) a 4) × (r < 2 ^ 32) × (ltb r (2 ^ 24) ≡ blank (now (file .entry)) (a + 3) 1) ⌝ }
 {
     two(file, a) + 0x1_0000 * two(file, a + 2)
 }
@@ -148,41 +147,42 @@ fn twenty_four(file: &[u8; 128], a: usize) -> u64
     eight(file, a) | eight(file, a + 8) | eight(file, a + 16)
 }
 
-// Three entries apart from each other.
-fn three(file: &[u8; 128], a: usize, b: usize, c: usize) -> u64
-    requires { ⌜ (a < 128) × (b < 128) × (c < 128) ⌝ }
-    ensures { λ r. ⌜ (eqb r 0 ≡ ((blank (now (file .entry)) a 1 && blank (now (file .entry)) b 1) && blank (now (file .entry)) c 1)) ⌝ }
+// The entries that stand alone are the top bytes of words: below 2^24 exactly if each of them is 0.
+fn tops(file: &[u8; 128]) -> u64
+    ensures { λ r. ⌜ ltb r (2 ^ 24) ≡ topsBlank (now (file .entry)) ⌝ }
 {
-    wide(file[a] | file[b] | file[c])
+    let low = four(file, 0x04) | four(file, 0x08) | four(file, 0x0c);
+    let middle = four(file, 0x48) | four(file, 0x4c) | four(file, 0x50) | four(file, 0x54);
+    low | middle | (four(file, 0x70) | four(file, 0x74))
 }
 
-// The entries below 40h where nothing is stored.
+// The other entries where nothing is stored: those below 40h, those to 5Bh, those from 5Dh on.
 fn first_half(file: &[u8; 128]) -> u64
     ensures { λ r. ⌜ eqb r 0 ≡ firstHalf (now (file .entry)) ⌝ }
 {
-    let few = four(file, 0x00) | three(file, 0x07, 0x0b, 0x0f);
-    few | twenty_four(file, 0x10) | twenty_four(file, 0x28)
+    four(file, 0x00) | twenty_four(file, 0x10) | twenty_four(file, 0x28)
 }
 
-// Those from 40h to 5Bh, those from 5Dh on.
 fn below_kind(file: &[u8; 128]) -> u64
     ensures { λ r. ⌜ eqb r 0 ≡ belowKind (now (file .entry)) ⌝ }
 {
-    let few = two(file, 0x46) | three(file, 0x4b, 0x4f, 0x53);
-    few | one(file, 0x57) | four(file, 0x58)
+    two(file, 0x46) | four(file, 0x58)
 }
 
 fn above_kind(file: &[u8; 128]) -> u64
     ensures { λ r. ⌜ eqb r 0 ≡ aboveKind (now (file .entry)) ⌝ }
 {
-    let few = three(file, 0x5d, 0x73, 0x77) | two(file, 0x5e);
-    few | two(file, 0x66) | eight(file, 0x68) | eight(file, 0x78)
+    let few = one(file, 0x5d) | two(file, 0x5e) | two(file, 0x66);
+    few | eight(file, 0x68) | eight(file, 0x78)
 }
 
 // Whether each entry of the file may stand there.
 pub fn file_fits(file: &[u8; 128]) -> bool
     ensures { λ r. ⌜ r ≡ fileFits part24 (now (file .entry)) ⌝ }
 {
+    if 0x100_0000 <= tops(file) {
+        return false;
+    }
     if (first_half(file) | below_kind(file) | above_kind(file)) != 0 {
         return false;
     }

@@ -4,8 +4,8 @@ use Rattle.map.proofs.Blanks.{or-zero}
 use Rattle.map.proofs.above_kind.Statement.{statement}
 use Rattle.map.proofs.above_kind.Tie as tie
 
-three-requires : tie.Need-three-requires
-three-requires c κs = search needs
+one-requires : tie.Need-one-requires
+one-requires c κs = search needs
 
 two-requires : tie.Need-two-requires
 two-requires c κs = search needs
@@ -24,7 +24,7 @@ unfolding aboveKind
 returns c =
     simp (
       or-zero,
-      c .before .before .before .before .three .ensures,
+      c .before .before .before .before .one .ensures .0,
       c .before .before .before .two .ensures .0,
       c .before .before .two2 .ensures .0,
       c .before .eight .ensures,
@@ -32,4 +32,4 @@ returns c =
     )
 
 pub above-kind-spec : {M : Type 1} → statement M
-above-kind-spec = tie.close (tie.spec three-requires two-requires two-requires-2 eight-requires eight-requires-2 returns)
+above-kind-spec = tie.close (tie.spec one-requires two-requires two-requires-2 eight-requires eight-requires-2 returns)

@@ -7,9 +7,6 @@ use Rattle.map.proofs.first_half.Tie as tie
 four-requires : tie.Need-four-requires
 four-requires c κs = search needs
 
-three-requires : tie.Need-three-requires
-three-requires c κs = search needs
-
 twenty-four-requires : tie.Need-twenty-four-requires
 twenty-four-requires c κs = search needs
 
@@ -21,11 +18,10 @@ unfolding firstHalf
 returns c =
     simp (
       or-zero,
-      c .before .before .before .four .ensures .0,
-      c .before .before .three .ensures,
+      c .before .before .four .ensures .0,
       c .before .twenty-four .ensures,
       c .twenty-four2 .ensures,
     )
 
 pub first-half-spec : {M : Type 1} → statement M
-first-half-spec = tie.close (tie.spec four-requires three-requires twenty-four-requires twenty-four-requires-2 returns)
+first-half-spec = tie.close (tie.spec four-requires twenty-four-requires twenty-four-requires-2 returns)

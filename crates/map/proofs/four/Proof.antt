@@ -1,6 +1,9 @@
 use borrow.Author.Needs.{needs}
 use native.Mathlib.Omega.{arith}
-use Rattle.map.proofs.Blanks.{word-above}
+use mathlib.Core.Path.{ap, _∙_}
+use Prim.Native.Nat.{ℕ}
+use Rattle.map.specs.Blank.{blank}
+use Rattle.map.proofs.Blanks.{word-above, top-of-four}
 use Rattle.map.proofs.four.Statement.{statement}
 use Rattle.map.proofs.four.Tie as tie
 
@@ -22,7 +25,12 @@ add-result c = search needs
 returns : tie.Need-returns
 returns c =
     let x = c .before .before .args in
-    (word-above (x .file .now) (x .a) 2 2 (c .before .two .result) (c .two2 .result) (c .before .two .ensures .0) (c .two2 .ensures .0) 0x1_0000 (omega arith), omega (arith, c .before .two .ensures .1, c .two2 .ensures .1))
+    let a = c .before .two in
+    let b = c .two2 in (
+      word-above (x .file .now) (x .a) 2 2 (a .result) (b .result) (a .ensures .0) (b .ensures .0) 0x1_0000 (omega arith),
+      omega (arith, a .ensures .1, b .ensures .1),
+      top-of-four _ _ (a .ensures .1) ∙ b .ensures .2 ∙ ap (λ (k : ℕ). blank (x .file .now) k 1) (omega arith),
+    )
 
 pub four-spec : {M : Type 1} → statement M
 four-spec = tie.close (tie.spec two-requires add-two two-requires-2 mul-result add-result returns)

@@ -1,6 +1,7 @@
 use borrow.Author.Needs.{needs}
 use native.Mathlib.Omega.{arith}
-use Rattle.map.proofs.Blanks.{word-above}
+use mathlib.Core.Path.{_∙_}
+use Rattle.map.proofs.Blanks.{word-above, top-of-two}
 use Rattle.map.proofs.two.Statement.{statement}
 use Rattle.map.proofs.two.Tie as tie
 
@@ -22,7 +23,12 @@ add-result c = search needs
 returns : tie.Need-returns
 returns c =
     let x = c .before .before .args in
-    (word-above (x .file .now) (x .a) 1 1 (c .before .one .result) (c .one2 .result) (c .before .one .ensures .0) (c .one2 .ensures .0) 0x100 (omega arith), omega (arith, c .before .one .ensures .1, c .one2 .ensures .1))
+    let a = c .before .one in
+    let b = c .one2 in (
+      word-above (x .file .now) (x .a) 1 1 (a .result) (b .result) (a .ensures .0) (b .ensures .0) 0x100 (omega arith),
+      omega (arith, a .ensures .1, b .ensures .1),
+      top-of-two _ _ (a .ensures .1) ∙ b .ensures .0,
+    )
 
 pub two-spec : {M : Type 1} → statement M
 two-spec = tie.close (tie.spec one-requires add-one one-requires-2 mul-result add-result returns)
