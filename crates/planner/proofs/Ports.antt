@@ -16,11 +16,11 @@ use Rattle.ports.proofs.Bytes.{three}
 use Rattle.quiet.specs.Settings.{shape24, Settings, PinBits, bitsOf}
 use Rattle.quiet.specs.Order.{stuck}
 use Rattle.quiet.specs.Route.{midConfiguration, midOutput, midConfigurations, midOutputs}
-use Rattle.planner.specs.Answer.{lineOf, Loaded}
-use Rattle.planner.specs.declared.Lines.{Lines}
+use Rattle.planner.specs.Answer.{pinIn, Loaded}
+use Rattle.planner.specs.declared.PortBytes.{PortBytes}
 
-line-is : (s : Settings) (k : ℕ) (x : Lines) → Loaded s k x → (j : ℕ) → j < 8 → lineOf x j ≡ bitsOf shape24 s k j
-line-is s k x d j h = λ i. record {
+pin-is : (s : Settings) (k : ℕ) (x : PortBytes) → Loaded s k x → (j : ℕ) → j < 8 → pinIn x j ≡ bitsOf shape24 s k j
+pin-is s k x d j h = λ i. record {
   output = bit (d .output-is i) j;
   configuration = bit (d .configuration-is i) j;
   portKind = d .kind-is j h i;
@@ -33,15 +33,15 @@ kind-bit b k sp r spread e j h =
     let place : 8 * k + j ≡ k * 8 + j = omega arith in
     pin-of 8 (λ j. bit sp (8 * k + j)) e j h ∙ spread (8 * k + j) ∙ ap (bit b) (ap (λ (n : ℕ). n / 8) place ∙ digits-div k h)
 
-module _ (s g : Settings) (k : ℕ) (x y : Lines) (dx : Loaded s k x) (dy : Loaded g k y) where
-  pub stuck-port : tabulate 8 (λ j. stuck (lineOf x j) (lineOf y j)) ≡ tabulate 8 (λ j. stuck (bitsOf shape24 s k j) (bitsOf shape24 g k j))
-  stuck-port = tabulate-ext 8 (λ j h. ap₂ (λ (a b : PinBits). stuck a b) (line-is s k x dx j h) (line-is g k y dy j h))
+module _ (s g : Settings) (k : ℕ) (x y : PortBytes) (dx : Loaded s k x) (dy : Loaded g k y) where
+  pub stuck-port : tabulate 8 (λ j. stuck (pinIn x j) (pinIn y j)) ≡ tabulate 8 (λ j. stuck (bitsOf shape24 s k j) (bitsOf shape24 g k j))
+  stuck-port = tabulate-ext 8 (λ j h. ap₂ (λ (a b : PinBits). stuck a b) (pin-is s k x dx j h) (pin-is g k y dy j h))
 
-  pub configuration-port : tabulate 8 (λ j. midConfiguration (lineOf x j) (lineOf y j)) ≡ midConfigurations shape24 s g k
-  configuration-port = tabulate-ext 8 (λ j h. ap₂ midConfiguration (line-is s k x dx j h) (line-is g k y dy j h))
+  pub configuration-port : tabulate 8 (λ j. midConfiguration (pinIn x j) (pinIn y j)) ≡ midConfigurations shape24 s g k
+  configuration-port = tabulate-ext 8 (λ j h. ap₂ midConfiguration (pin-is s k x dx j h) (pin-is g k y dy j h))
 
-  pub output-port : tabulate 8 (λ j. midOutput (lineOf x j) (lineOf y j)) ≡ midOutputs shape24 s g k
-  output-port = tabulate-ext 8 (λ j h. ap₂ midOutput (line-is s k x dx j h) (line-is g k y dy j h))
+  pub output-port : tabulate 8 (λ j. midOutput (pinIn x j) (pinIn y j)) ≡ midOutputs shape24 s g k
+  output-port = tabulate-ext 8 (λ j h. ap₂ midOutput (pin-is s k x dx j h) (pin-is g k y dy j h))
 
 -- a set that is given by its pins is not empty exactly if one of them is in it
 pub some-of : (f : ℕ → Bool) {r : ℕ} → r ≡ tabulate 8 f → not (eqb r 0) ≡ some 8 f

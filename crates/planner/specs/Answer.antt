@@ -9,7 +9,7 @@ use Rattle.bits.specs.Bits.{bit}
 use Rattle.quiet.specs.Settings.{shape24, Settings, PinBits, Write}
 use Rattle.quiet.specs.Order.{blocked}
 use Rattle.quiet.specs.Route.{midOutputs, midConfigurations, planOf, bytesOf}
-use Rattle.planner.specs.declared.Lines.{Lines}
+use Rattle.planner.specs.declared.PortBytes.{PortBytes}
 use Rattle.planner.specs.declared.Middle.{Middle}
 use Rattle.planner.specs.declared.Planned.{Planned}
 use Rattle.planner.specs.declared.Steps.{Steps}
@@ -36,11 +36,11 @@ Answers r before after (give ws) = (r ≡ Planned.Writes (length ws)) × (after 
 
 -- ---- under it
 -- bit j of a port's four bytes
-abbrev pub lineOf : Lines → ℕ → PinBits
-lineOf x j = record { output = bit (x .output) j; configuration = bit (x .configuration) j; portKind = bit (x .kind) j; pinKind = bit (x .flip) j }
+abbrev pub pinIn : PortBytes → ℕ → PinBits
+pinIn x j = record { output = bit (x .output) j; configuration = bit (x .configuration) j; portKind = bit (x .kind) j; pinKind = bit (x .flip) j }
 
 -- port k's bytes; its bit in the port kinds for each of its pins
-pub record Loaded (s : Settings) (k : ℕ) (x : Lines) : Type 0 where
+pub record Loaded (s : Settings) (k : ℕ) (x : PortBytes) : Type 0 where
   pub output-is : x .output ≡ getD s k 0
   pub configuration-is : x .configuration ≡ getD s (3 + k) 0
   pub kind-is : (j : ℕ) → j < 8 → bit (x .kind) j ≡ bit (getD s 6 0) k

@@ -7,7 +7,7 @@ ghost use Rattle.bits.specs.Bits.{bit, tabulate};
 ghost use Rattle.quiet.specs.Settings.{shape24, bitsOf};
 ghost use Rattle.quiet.specs.Order.{stuck, blocked};
 ghost use Rattle.quiet.specs.Route.{midConfiguration, midOutput};
-ghost use Rattle.planner.specs.Answer.{formed, answerOf, Answers, lineOf, Loaded, Halfway, Laid, kept, Emitted, Ready, Planted};
+ghost use Rattle.planner.specs.Answer.{formed, answerOf, Answers, pinIn, Loaded, Halfway, Laid, kept, Emitted, Ready, Planted};
 ghost use Rattle.planner.specs.Promise.{Promise};
 
 // The number of writes, or the number of the refusal.
@@ -17,7 +17,7 @@ pub enum Planned {
 }
 
 // One port's bytes: bit j of each belongs to pin j of the port.
-struct Lines {
+struct PortBytes {
     output: u8,
     configuration: u8,
     kind: u8,
@@ -35,14 +35,14 @@ fn is_formed(s: &[u8]) -> bool
 }
 
 // What the settings s say of port k.
-fn port(s: &[u8], k: u8) -> Lines
+fn port(s: &[u8], k: u8) -> PortBytes
     requires { ⌜ (length (now s) ≡ 10) × (getD (now s) 6 0 < 8) × (k < 3) ⌝ }
     ensures { λ r. ⌜ Loaded (now (s .entry)) k r ⌝ }
 {
     let at = k as usize;
     let kinds = ports::spread(s[6]);
     let kind = ports::byte_of(kinds, k);
-    Lines {
+    PortBytes {
         output: s[at],
         configuration: s[3 + at],
         kind,
@@ -51,8 +51,8 @@ fn port(s: &[u8], k: u8) -> Lines
 }
 
 // The configuration in the middle of the plan.
-fn mid_configuration(s: Lines, g: Lines) -> u8
-    ensures { λ r. ⌜ r ≡ tabulate 8 (λ j. midConfiguration (lineOf s j) (lineOf g j)) ⌝ }
+fn mid_configuration(s: PortBytes, g: PortBytes) -> u8
+    ensures { λ r. ⌜ r ≡ tabulate 8 (λ j. midConfiguration (pinIn s j) (pinIn g j)) ⌝ }
 {
     let change = (s.output ^ g.output)
         | (s.configuration ^ g.configuration)
@@ -65,15 +65,15 @@ fn mid_configuration(s: Lines, g: Lines) -> u8
 }
 
 // The output in the middle of the plan.
-fn mid_output(s: Lines, g: Lines) -> u8
-    ensures { λ r. ⌜ r ≡ tabulate 8 (λ j. midOutput (lineOf s j) (lineOf g j)) ⌝ }
+fn mid_output(s: PortBytes, g: PortBytes) -> u8
+    ensures { λ r. ⌜ r ≡ tabulate 8 (λ j. midOutput (pinIn s j) (pinIn g j)) ⌝ }
 {
     s.output & (g.output | mid_configuration(s, g))
 }
 
 // The pins of the port that are stuck.
-fn stuck_in(s: Lines, g: Lines) -> u8
-    ensures { λ r. ⌜ r ≡ tabulate 8 (λ j. stuck (lineOf s j) (lineOf g j)) ⌝ }
+fn stuck_in(s: PortBytes, g: PortBytes) -> u8
+    ensures { λ r. ⌜ r ≡ tabulate 8 (λ j. stuck (pinIn s j) (pinIn g j)) ⌝ }
 {
     let high = s.output ^ (s.output & (s.configuration | (s.kind ^ s.flip)));
     let again = g.output ^ (g.output & (g.configuration | (g.kind ^ g.flip)));
@@ -116,6 +116,7 @@ fn mid_port(start: &[u8], goal: &[u8], k: u8) -> Middle
         configuration: mid_configuration(s, g),
     }
 }
+
 // What each of the sixteen writes finds, and what it writes.
 struct Steps {
     was: [u8; 16],

@@ -1,4 +1,4 @@
--- One turn of each loop, over plain lists.
+-- One turn of each loop, over plain lists. Assumes nothing.
 use mathlib.Core.Path.{_≡_, refl, ap, sym, _∙_}
 use mathlib.Core.Bool.{false, and-false}
 use mathlib.Core.List.{List, [], _∷_, _++_}
