@@ -30,6 +30,22 @@ fn say_refusal(number: u8) {
     io::write_all(STDOUT_FILENO, &[text[1], b'\n']);
 }
 
+// What was wrong with a start or a goal, for a person.
+fn explain_setting(number: u8) {
+    if number == 5 {
+        io::write_all(
+            STDERR_FILENO,
+            b"plan: a start and a goal are ten bytes each, 04 05 06 0c 0d 0e 5c 70 71 72, and the 5c byte is 07 or less\n",
+        );
+    }
+    if number == 7 {
+        io::write_all(
+            STDERR_FILENO,
+            b"plan: give a start and a goal as pairs of lowercase hex digits, nothing else; on a line of standard input with one tab between them\n",
+        );
+    }
+}
+
 // Why no quiet way exists, for a person: one pin that is in the way.
 fn explain_pin(pin: u8) {
     io::write_all(STDERR_FILENO, b"plan: pin ");
@@ -63,6 +79,7 @@ fn answer(r: Reading) {
     let number = asks::line_refusal(r);
     if number != 0 {
         say_refusal(number);
+        explain_setting(number);
         return;
     }
     let first = r.start;
@@ -83,6 +100,7 @@ fn refused(planned: Planned, start: &[u8; 10], goal: &[u8; 10]) {
         return;
     };
     say_refusal(number);
+    explain_setting(number);
     if number == 4 {
         explain(start, goal);
     }
