@@ -199,7 +199,7 @@ pub fn reset(file: &mut [u8; 128], r: Rest) -> Rest
     let x = r.sets;
     let choice = r.choice;
     *file = map::default_file();
-    let sets = pins::reset_pins(x);
+    let sets = pinmarks::reset_pins(x);
     Rest {
         sets,
         pointer: 0,

@@ -76,7 +76,7 @@ pub fn set_levels(file: &[u8; 128], x: Sets, new: u64) -> Sets
     requires { ⌜ (new < 2 ^ 24) × Within 24 x ⌝ }
     ensures { λ y. ⌜ core (now (file .entry)) y ≡ levelled part24 (core (now (file .entry)) x) new ⌝ }
 {
-    pins::levels_to(sources(file), x, new)
+    pinmarks::levels_to(sources(file), x, new)
 }
 
 // Register k of the latch group is written with v: what that does to the pins; and so for the four below.
@@ -87,7 +87,7 @@ fn write_latch(file: &[u8; 128], x: Sets, k: u8, v: u8) -> Sets
 {
     let configuration = group(file, 0x0c);
     let latch = group(file, 0x48);
-    pins::write_latch(
+    pinmarks::write_latch(
         x,
         configuration,
         latch,
@@ -102,7 +102,7 @@ fn write_configuration(file: &[u8; 128], x: Sets, k: u8, v: u8) -> Sets
         (λ i. pinAfter (cond (inPort k i) (ConfigurationWritten (portBit v i)) Elsewhere) (registersAt part24 (now (file .entry)) i)) ⌝ }
 {
     let configuration = group(file, 0x0c);
-    pins::write_configuration(x, configuration, ports::port_set(k), ports::at_port(v, k))
+    pinmarks::write_configuration(x, configuration, ports::port_set(k), ports::at_port(v, k))
 }
 
 fn write_mask(file: &[u8; 128], x: Sets, k: u8, v: u8) -> Sets
@@ -110,7 +110,7 @@ fn write_mask(file: &[u8; 128], x: Sets, k: u8, v: u8) -> Sets
     ensures { λ y. ⌜ y ≡ mapPins 24 x
         (λ i. pinAfter (cond (inPort k i) (MaskWritten (portBit v i)) Elsewhere) (registersAt part24 (now (file .entry)) i)) ⌝ }
 {
-    pins::write_mask(x, ports::port_set(k), ports::at_port(v, k))
+    pinmarks::write_mask(x, ports::port_set(k), ports::at_port(v, k))
 }
 
 fn write_clear(file: &[u8; 128], x: Sets, k: u8, v: u8) -> Sets
@@ -118,7 +118,7 @@ fn write_clear(file: &[u8; 128], x: Sets, k: u8, v: u8) -> Sets
     ensures { λ y. ⌜ y ≡ mapPins 24 x
         (λ i. pinAfter (cond (inPort k i) (ClearWritten (portBit v i)) Elsewhere) (registersAt part24 (now (file .entry)) i)) ⌝ }
 {
-    pins::write_clear(x, ports::port_set(k), ports::at_port(v, k))
+    pinmarks::write_clear(x, ports::port_set(k), ports::at_port(v, k))
 }
 
 fn write_edge(file: &[u8; 128], x: Sets, k: u8, v: u8) -> Sets
@@ -126,7 +126,7 @@ fn write_edge(file: &[u8; 128], x: Sets, k: u8, v: u8) -> Sets
     ensures { λ y. ⌜ y ≡ mapPins 24 x
         (λ i. pinAfter (cond (inEdge k i) (EdgeWritten (risingBit v i) (fallingBit v i)) Elsewhere) (registersAt part24 (now (file .entry)) i)) ⌝ }
 {
-    pins::write_edge(
+    pinmarks::write_edge(
         x,
         ports::edge_set(k),
         ports::rising_at(v, k),

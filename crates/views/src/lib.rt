@@ -25,7 +25,7 @@ pub fn low(file: &[u8; 128]) -> u64
 {
     let configuration = registers::group(file, 0x0c);
     let output = registers::group(file, 0x04);
-    pins::driven_low(0xff_ffff, configuration, output)
+    pinviews::driven_low(0xff_ffff, configuration, output)
 }
 
 // The pins driven high.
@@ -35,7 +35,7 @@ pub fn high(file: &[u8; 128]) -> u64
     let configuration = registers::group(file, 0x0c);
     let output = registers::group(file, 0x04);
     let pin_kinds = registers::group(file, 0x70);
-    pins::driven_high(configuration, output, port_kinds(file), pin_kinds)
+    pinviews::driven_high(configuration, output, port_kinds(file), pin_kinds)
 }
 
 // The input port bits.
@@ -46,7 +46,7 @@ fn inputs(file: &[u8; 128], x: Sets) -> u64
     let latch = registers::group(file, 0x48);
     let polarity = registers::group(file, 0x08);
     let pin_kinds = registers::group(file, 0x70);
-    pins::input_bits(
+    pinviews::input_bits(
         configuration,
         latch,
         polarity,
@@ -68,14 +68,14 @@ fn statuses(file: &[u8; 128], x: Sets) -> u64
         rising: registers::edged(file),
         falling: 0,
     };
-    pins::status_bits(asking, x)
+    pinviews::status_bits(asking, x)
 }
 
 // Whether INT is asserted.
 pub fn int(file: &[u8; 128], x: Sets) -> bool
     ensures { λ r. ⌜ r ≡ intAsserted part24 (core (now (file .entry)) x) ⌝ }
 {
-    pins::int_asserted(statuses(file, x))
+    pinviews::int_asserted(statuses(file, x))
 }
 
 // The byte that a fetch of register n shows.
@@ -108,7 +108,7 @@ pub fn fetch(x: Sets, n: u8) -> Sets
     ensures { λ y. ⌜ ((file : List ℕ) → core file y ≡ fetched part24 (core file x) n) ⌝ }
 {
     if map::kind_of(n) == 1 {
-        return pins::fetch_input(x, ports::port_set(n % 4));
+        return pinmarks::fetch_input(x, ports::port_set(n % 4));
     }
     x
 }
