@@ -107,7 +107,7 @@ fn byte_filling(file: &mut [u8; 128], r: Rest, b: u8) -> Out
     let n = r.pointer;
     let x = r.sets;
     let choice = r.choice;
-    let sets = registers::write_register(file, x, n, b);
+    let sets = writes::write_register(file, x, n, b);
     let pointer = map::next_of(n);
     acked(Rest {
         sets,

@@ -1,15 +1,13 @@
-// The register file and the pins: what the file says of each pin, and what writing a register does.
+// The register file and the pins: what the file says of each pin, and the levels event.
 ghost use mathlib.Core.Path.{_≡_};
-ghost use mathlib.Core.Bool.{cond, _||_};
+ghost use mathlib.Core.Bool.{_||_};
 ghost use Prim.Native.Nat.{ℕ, _+_, _/_, _<_, _≤_, _^_};
 ghost use lib.ListN.{getD};
 ghost use Rattle.bits.specs.Bits.{bit};
-ghost use Rattle.pins.specs.AllPins.{Within, sourceAt, mapPins};
-ghost use Rattle.pins.specs.OnePin.{pinAfter};
-ghost use Rattle.pins.specs.OnePin.Happening.{ClearWritten, MaskWritten, EdgeWritten, LatchWritten, ConfigurationWritten, Elsewhere};
-ghost use Rattle.ports.specs.Ports.{inPort, portBit, inEdge, risingBit, fallingBit};
+ghost use Rattle.pins.specs.AllPins.{Within, sourceAt};
+ghost use Rattle.ports.specs.Ports.{portBit, risingBit, fallingBit};
 ghost use Rattle.map.specs.Map.{part24};
-ghost use Rattle.registers.specs.Registers.{core, edgeByte, registersAt, written, levelled};
+ghost use Rattle.registers.specs.Registers.{core, edgeByte, registersAt, levelled};
 use pins::Sets;
 use pins::Sources;
 
@@ -77,99 +75,4 @@ pub fn set_levels(file: &[u8; 128], x: Sets, new: u64) -> Sets
     ensures { λ y. ⌜ core (now (file .entry)) y ≡ levelled part24 (core (now (file .entry)) x) new ⌝ }
 {
     pinmarks::levels_to(sources(file), x, new)
-}
-
-// Register k of the latch group is written with v: what that does to the pins; and so for the four below.
-fn write_latch(file: &[u8; 128], x: Sets, k: u8, v: u8) -> Sets
-    requires { ⌜ (k < 8) × Within 24 x ⌝ }
-    ensures { λ y. ⌜ y ≡ mapPins 24 x
-        (λ i. pinAfter (cond (inPort k i) (LatchWritten (portBit v i)) Elsewhere) (registersAt part24 (now (file .entry)) i)) ⌝ }
-{
-    let configuration = group(file, 0x0c);
-    let latch = group(file, 0x48);
-    pinmarks::write_latch(
-        x,
-        configuration,
-        latch,
-        ports::port_set(k),
-        ports::at_port(v, k),
-    )
-}
-
-fn write_configuration(file: &[u8; 128], x: Sets, k: u8, v: u8) -> Sets
-    requires { ⌜ (k < 8) × Within 24 x ⌝ }
-    ensures { λ y. ⌜ y ≡ mapPins 24 x
-        (λ i. pinAfter (cond (inPort k i) (ConfigurationWritten (portBit v i)) Elsewhere) (registersAt part24 (now (file .entry)) i)) ⌝ }
-{
-    let configuration = group(file, 0x0c);
-    pinmarks::write_configuration(x, configuration, ports::port_set(k), ports::at_port(v, k))
-}
-
-fn write_mask(file: &[u8; 128], x: Sets, k: u8, v: u8) -> Sets
-    requires { ⌜ (k < 8) × Within 24 x ⌝ }
-    ensures { λ y. ⌜ y ≡ mapPins 24 x
-        (λ i. pinAfter (cond (inPort k i) (MaskWritten (portBit v i)) Elsewhere) (registersAt part24 (now (file .entry)) i)) ⌝ }
-{
-    pinmarks::write_mask(x, ports::port_set(k), ports::at_port(v, k))
-}
-
-fn write_clear(file: &[u8; 128], x: Sets, k: u8, v: u8) -> Sets
-    requires { ⌜ (k < 8) × Within 24 x ⌝ }
-    ensures { λ y. ⌜ y ≡ mapPins 24 x
-        (λ i. pinAfter (cond (inPort k i) (ClearWritten (portBit v i)) Elsewhere) (registersAt part24 (now (file .entry)) i)) ⌝ }
-{
-    pinmarks::write_clear(x, ports::port_set(k), ports::at_port(v, k))
-}
-
-fn write_edge(file: &[u8; 128], x: Sets, k: u8, v: u8) -> Sets
-    requires { ⌜ (k < 16) × Within 24 x ⌝ }
-    ensures { λ y. ⌜ y ≡ mapPins 24 x
-        (λ i. pinAfter (cond (inEdge k i) (EdgeWritten (risingBit v i) (fallingBit v i)) Elsewhere) (registersAt part24 (now (file .entry)) i)) ⌝ }
-{
-    pinmarks::write_edge(
-        x,
-        ports::edge_set(k),
-        ports::rising_at(v, k),
-        ports::falling_at(v, k),
-    )
-}
-
-// Register n is written with v: its kind decides what that does.
-pub fn write_register(file: &mut [u8; 128], x: Sets, n: u8, v: u8) -> Sets
-    requires { ⌜ (n < 128) × Within 24 x ⌝ }
-    ensures { λ y. ⌜ core (now (file .exit)) y ≡ written part24 (core (now (file .entry)) x) n v ⌝ }
-{
-    let kind = map::kind_of(n);
-    if kind < 4 {
-        return x;
-    }
-    if kind == 4 {
-        let y = write_configuration(&*file, x, n % 4, v);
-        file[n as usize] = v;
-        return y;
-    }
-    if kind == 5 {
-        let y = write_latch(&*file, x, n % 4, v);
-        file[n as usize] = v;
-        return y;
-    }
-    if kind == 6 {
-        let y = write_mask(&*file, x, n % 4, v);
-        file[n as usize] = v;
-        return y;
-    }
-    if kind == 7 {
-        file[n as usize] = v % 8;
-        return x;
-    }
-    if kind == 8 {
-        let y = write_edge(&*file, x, n % 8, v);
-        file[n as usize] = v;
-        return y;
-    }
-    if kind == 9 {
-        return write_clear(&*file, x, n % 4, v);
-    }
-    file[n as usize] = v;
-    x
 }

@@ -6,10 +6,10 @@ use Rattle.pins.specs.OnePin.{pinAfter}
 use Rattle.pins.specs.OnePin.Happening.{MaskWritten}
 use Rattle.ports.specs.Ports.{inPort, portBit}
 use Rattle.map.specs.Map.{part24}
 use Rattle.registers.specs.Registers.{registersAt}
 use Rattle.registers.proofs.Writing.{by-rule}
-use Rattle.registers.proofs.write_mask.Statement.{statement}
-use Rattle.registers.proofs.write_mask.Tie as tie
+use Rattle.effects.proofs.write_mask.Statement.{statement}
+use Rattle.effects.proofs.write_mask.Tie as tie
 
 port-set-requires : tie.Need-port-set-requires
 port-set-requires c κs = search needs

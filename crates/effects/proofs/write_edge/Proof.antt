@@ -6,10 +6,10 @@ use Rattle.pins.specs.OnePin.{pinAfter}
 use Rattle.pins.specs.OnePin.Happening.{EdgeWritten}
 use Rattle.ports.specs.Ports.{inEdge, risingBit, fallingBit}
 use Rattle.map.specs.Map.{part24}
 use Rattle.registers.specs.Registers.{registersAt}
 use Rattle.registers.proofs.Writing.{by-rule}
-use Rattle.registers.proofs.write_edge.Statement.{statement}
-use Rattle.registers.proofs.write_edge.Tie as tie
+use Rattle.effects.proofs.write_edge.Statement.{statement}
+use Rattle.effects.proofs.write_edge.Tie as tie
 
 edge-set-requires : tie.Need-edge-set-requires
 edge-set-requires c κs = search needs

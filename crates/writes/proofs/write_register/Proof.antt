@@ -6,11 +6,11 @@ use Rattle.ports.specs.Ports.{inPort, portBit, inEdge, risingBit, fallingBit}
 use Rattle.map.specs.Map.{part24, kindAt}
 use Rattle.map.specs.Map.Kind.{Configuration, Latch, Mask, Edge, Clear}
 use Rattle.map.proofs.Rows.{kind-is, port-at, edge-at}
 use Rattle.registers.specs.Registers.{writtenTo}
 use Rattle.registers.proofs.Writing.{idle-write, kept-write, kind-write, rule-write, unstored-write}
 use native.Mathlib.Omega.{arith}
-use Rattle.registers.proofs.write_register.Statement.{statement}
-use Rattle.registers.proofs.write_register.Tie as tie
+use Rattle.writes.proofs.write_register.Statement.{statement}
+use Rattle.writes.proofs.write_register.Tie as tie
 
 kind-of-requires : tie.Need-kind-of-requires
 kind-of-requires c κs = search needs
