@@ -84,7 +84,7 @@ fn event(file: &mut [u8; 128], r: Rest, kind: u32, arg: u64) -> Out
                 rest: r,
             };
         }
-        return bus::byte(file, r, arg as u8);
+        return transfers::byte(file, r, arg as u8);
     }
     if kind == 3 {
         if 1 < arg {
@@ -93,7 +93,7 @@ fn event(file: &mut [u8; 128], r: Rest, kind: u32, arg: u64) -> Out
                 rest: r,
             };
         }
-        return bus::fetch(&*file, r, arg == 1);
+        return transfers::fetch(&*file, r, arg == 1);
     }
     if kind == 4 {
         if 0xff_ffff < arg {

@@ -1,12 +1,12 @@
 use borrow.Author.Needs.{needs}
 use mathlib.Core.Path.{refl, ap, _∙_}
 use Rattle.bus.specs.Device.{out, byteIn}
 use Rattle.bus.specs.Held.{stateOf}
 use Rattle.bus.specs.declared.Out.{Out}
 use Rattle.bus.specs.declared.Answer.the-variants.{Nak}
 use Rattle.bus.proofs.Stepping.{at-bus, no-byte, told}
-use Rattle.bus.proofs.byte.Statement.{statement}
-use Rattle.bus.proofs.byte.Tie as tie
+use Rattle.transfers.proofs.byte.Statement.{statement}
+use Rattle.transfers.proofs.byte.Tie as tie
 
 byte-opened-requires : tie.Need-byte-opened-requires
 byte-opened-requires c κs = search needs

@@ -1,11 +1,11 @@
 use borrow.Author.Needs.{needs}
 use mathlib.Core.Path.{ap, refl, _∙_}
 use Rattle.registers.proofs.Writing.{same}
 use Rattle.bus.specs.Device.{byteIn}
 use Rattle.bus.specs.declared.Out.{Out}
 use Rattle.bus.proofs.Stepping.{same-state, same-outcome}
-use Rattle.bus.proofs.byte_filling.Statement.{statement}
-use Rattle.bus.proofs.byte_filling.Tie as tie
+use Rattle.transfers.proofs.byte_filling.Statement.{statement}
+use Rattle.transfers.proofs.byte_filling.Tie as tie
 
 write-register-requires : tie.Need-write-register-requires
 write-register-requires c κs = search needs

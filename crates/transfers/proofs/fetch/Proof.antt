@@ -1,12 +1,12 @@
 use borrow.Author.Needs.{needs}
 use mathlib.Core.Path.{refl, ap, _∙_}
 use Rattle.bus.specs.Device.{out, fetchIn}
 use Rattle.bus.specs.Held.{stateOf}
 use Rattle.bus.specs.declared.Out.{Out}
 use Rattle.bus.specs.declared.Answer.the-variants.{Byte}
 use Rattle.bus.proofs.Stepping.{same-state, same-outcome, sending, stray-fetch}
-use Rattle.bus.proofs.fetch.Statement.{statement}
-use Rattle.bus.proofs.fetch.Tie as tie
+use Rattle.transfers.proofs.fetch.Statement.{statement}
+use Rattle.transfers.proofs.fetch.Tie as tie
 
 read-requires : tie.Need-read-requires
 read-requires c κs = search needs

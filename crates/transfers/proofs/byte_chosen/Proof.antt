@@ -1,10 +1,10 @@
 use borrow.Author.Needs.{needs}
 use mathlib.Core.Path.{sym, _∙_}
 use Rattle.bus.specs.Device.{byteIn}
 use Rattle.bus.specs.declared.Answer.the-variants.{Ack, Nak}
 use Rattle.bus.proofs.Stepping.{told}
-use Rattle.bus.proofs.byte_chosen.Statement.{statement}
-use Rattle.bus.proofs.byte_chosen.Tie as tie
+use Rattle.transfers.proofs.byte_chosen.Statement.{statement}
+use Rattle.transfers.proofs.byte_chosen.Tie as tie
 
 is-reserved-requires : tie.Need-is-reserved-requires
 is-reserved-requires c κs = search needs
