@@ -74,7 +74,7 @@ pub fn reset(file: &mut [u8; 128], r: Rest) -> Rest
 {
     let x = r.sets;
     let choice = r.choice;
-    *file = map::default_file();
+    *file = files::default_file();
     let sets = pinmarks::reset_pins(x);
     Rest {
         sets,

@@ -18,7 +18,7 @@ use pins::Sets;
 fn parts_fit(file: &[u8; 128], all: u64, pointer: u8, bus: u8, choice: u8) -> bool
     ensures { λ t. ⌜ t ≡ (not (reserved part24 pointer) && (ltb bus 8 && (ltb choice 4 && (ltb all (2 ^ 24) && fileFits part24 (now (file .entry)))))) ⌝ }
 {
-    if map::is_reserved(pointer) {
+    if lookup::is_reserved(pointer) {
         return false;
     }
     if 8 <= bus {
@@ -30,7 +30,7 @@ fn parts_fit(file: &[u8; 128], all: u64, pointer: u8, bus: u8, choice: u8) -> bo
     if 0x100_0000 <= all {
         return false;
     }
-    map::file_fits(file)
+    files::file_fits(file)
 }
 
 // Whether the state may stand: what refusal 3 asks.
@@ -154,7 +154,7 @@ impl Device {
     pub fn reset_values() -> [u8; 128]
         ensures { λ r. ⌜ r ≡ defaults part24 ⌝ }
     {
-        map::default_file()
+        files::default_file()
     }
 
     fn of(file: [u8; 128], r: Rest) -> Device

@@ -188,7 +188,7 @@ pub extern "C" fn ghixramel_arrays_show(
         return 2;
     }
     let n = (number % 128) as u8;
-    if map::is_reserved(n) {
+    if lookup::is_reserved(n) {
         return 2;
     }
     *byte = [views::show(file, rest.sets, n)];

@@ -1,3 +1,2 @@
 pub mod Map
-pub mod Blank
 pub mod Rows

@@ -35,7 +35,7 @@ fn byte_chosen(r: Rest, b: u8) -> Out
     ensures { λ o. ⌜ ((file : List ℕ) → out (o .answer) (stateOf file (o .rest)) ≡ byteIn part24 Chosen (stateOf file r) b) ⌝ }
 {
     let kept = r.pointer;
-    if map::is_reserved(b) {
+    if lookup::is_reserved(b) {
         return bus::not_acked(bus::moved(r, kept, 7));
     }
     bus::acked(bus::moved(r, b, 3))
@@ -50,7 +50,7 @@ fn byte_filling(file: &mut [u8; 128], r: Rest, b: u8) -> Out
     let x = r.sets;
     let choice = r.choice;
     let sets = writes::write_register(file, x, n, b);
-    let pointer = map::next_of(n);
+    let pointer = lookup::next_of(n);
     bus::acked(Rest {
         sets,
         pointer,
@@ -111,7 +111,7 @@ pub fn fetch(file: &[u8; 128], r: Rest, acknowledged: bool) -> Out
     let shown = views::show(file, x, n);
     let sets = views::fetch(x, n);
     if acknowledged {
-        let next = map::next_of(n);
+        let next = lookup::next_of(n);
         return bus::read(
             shown,
             Rest {

@@ -83,7 +83,7 @@ pub fn show(file: &[u8; 128], x: Sets, n: u8) -> u8
     requires { ⌜ n < 128 ⌝ }
     ensures { λ b. ⌜ b ≡ shown part24 (core (now (file .entry)) x) n ⌝ }
 {
-    let kind = map::kind_of(n);
+    let kind = lookup::kind_of(n);
     if 3 < kind {
         if kind == 9 {
             return 0;
@@ -107,7 +107,7 @@ pub fn fetch(x: Sets, n: u8) -> Sets
     requires { ⌜ (n < 128) × Within 24 x ⌝ }
     ensures { λ y. ⌜ ((file : List ℕ) → core file y ≡ fetched part24 (core file x) n) ⌝ }
 {
-    if map::kind_of(n) == 1 {
+    if lookup::kind_of(n) == 1 {
         return pinmarks::fetch_input(x, ports::port_set(n % 4));
     }
     x

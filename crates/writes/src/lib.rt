@@ -11,7 +11,7 @@ pub fn write_register(file: &mut [u8; 128], x: Sets, n: u8, v: u8) -> Sets
     requires { ⌜ (n < 128) × Within 24 x ⌝ }
     ensures { λ y. ⌜ core (now (file .exit)) y ≡ written part24 (core (now (file .entry)) x) n v ⌝ }
 {
-    let kind = map::kind_of(n);
+    let kind = lookup::kind_of(n);
     if kind < 4 {
         return x;
     }
