@@ -2,12 +2,10 @@
 use mathlib.Core.Path.{_≡_, refl, ap, sym, _∙_}
 use mathlib.Core.Bool.{Bool, true, false}
 use mathlib.Core.List.{List, [], _∷_, _++_}
-use Prim.Native.Nat.{ℕ, _+_, _-_, _<_, _≤_}
+use Prim.Native.Nat.{ℕ, _+_, _-_, _≤_}
 use native.Mathlib.Omega.{arith}
-use borrow.Author.Tests.{ltb-true, ltb-false}
-use lib.Dec.{ltb}
 use lib.ListN.{length, take, drop, length-take}
-use lib.Seq.{sets-eq, take-all, length-take-le, take-append-le}
+use lib.Seq.{sets-eq, take-append-le}
 use types.Run.{OneOf}
 use denote.Enum.Declared.{tagOf}
 use Rattle.bus.proofs.Answer.{the-type}
@@ -23,12 +21,7 @@ use Rattle.bus.specs.Device.{State, Outcome, state, out as outcome}
 use Rattle.device.specs.Refusals.{stepped}
 use Rattle.tracing.specs.Tracing.{shownLine}
 use Rattle.fields.specs.Fields.{widths, readable, bytesAt, numberIn, bytesText, fieldsText}
-use Rattle.fields.proofs.Reading.{other-length}
-use Rattle.fields.proofs.Writing.{fields-both}
-use Rattle.pieces.specs.Pieces.{Kept}
-use Rattle.pieces.proofs.Laws.{kept-most, take-again}
-use Rattle.images.specs.declared.Line.{Line}
-use Rattle.images.specs.Begun.{Holds}
+use Rattle.fieldtexts.proofs.Writing.{fields-both}
 use Rattle.images.specs.Images.{imageIn, kindIn, argumentIn, imageText, unended, probeLine, probeText}
 
 -- ---- what the code gathers
@@ -100,29 +93,3 @@ module _ (line : List ℕ) {t : Bool} (read : t ≡ readable line) where
   pub probed-text : t ≡ true → {o : Outcome} → o ≡ stepped part24 (imageIn line) (kindIn line) (argumentIn line) → probeLine o ≡ probeText line
   unfolding probeText
   probed-text e o = rw (← read, e, o)
-
--- ---- a line that has begun
--- of a line over 359 bytes the first 360 say as much as all of it
-probe-take : (text : List ℕ) → probeText (take 360 text) ≡ probeText text
-unfolding probeText
-probe-take text = go (ltb 359 (length text)) refl
-  where
-    go : (t : Bool) → ltb 359 (length text) ≡ t → probeText (take 360 text) ≡ probeText text
-    go true e =
-        let l : 359 < length text = ltb-true 359 (length text) e in
-        rw (other-length text (λ q. omega arith), other-length (take 360 text) (λ q. omega (arith, length-take-le 360 text (omega arith))))
-    go false e = let l : length text ≤ 359 = ltb-false 359 (length text) e in ap probeText (take-all 360 text (omega arith))
-
-pub grown-holds : (line : Line) {part left : List ℕ} {end : ℕ} → length (line .held) ≡ 360 → Kept (line .held) (line .len) part end left
-    → (end ≤ 360) × ((text : List ℕ) → Holds line text → Holds (record { held = left; len = end }) (text ++ part))
-grown-holds line {part} all k =
-    let kept = kept-most 360 all k in (
-      kept .1,
-      λ text h. record { small = kept .1; kept = kept .0 ∙ ap (λ (x : List ℕ). take 360 (x ++ part)) (h .kept) ∙ take-again 360 text part },
-    )
-
-pub held-answer : (line : Line) {out left : List ℕ} {at end : ℕ} → Wrote out at (probeText (take (line .len - 0) (line .held))) end left
-    → (text : List ℕ) → Holds line text → Wrote out at (probeText text) end left
-held-answer line w text h =
-    let e : line .len - 0 ≡ line .len = omega arith in
-    wrote-as (ap probeText (ap (λ (k : ℕ). take k (line .held)) e ∙ h .kept) ∙ probe-take text) w

@@ -1,7 +1,6 @@
-// State images as text: one line in, one step on the image that it says, one line out.
+// State images as text: the image and the event that a line says, and the text of a step on it.
 ghost use mathlib.Core.Path.{_≡_};
-ghost use mathlib.Core.List.{List, [], _++_};
-ghost use Prim.Native.Nat.{ℕ, _+_, _≤_};
+ghost use Prim.Native.Nat.{_+_, _≤_};
 ghost use lib.ListN.{length};
 ghost use Rattle.map.specs.Map.{part24};
 ghost use Rattle.bus.specs.Device.{out as outcome};
@@ -9,14 +8,13 @@ ghost use Rattle.device.specs.Refusals.{stepped};
 ghost use Rattle.device.specs.PowerOn.{stateIn};
 ghost use Rattle.text.specs.Text.{Wrote};
 ghost use Rattle.tracing.specs.Tracing.{shownLine};
-ghost use Rattle.images.specs.Images.{imageIn, kindIn, argumentIn, imageText, unended, probeLine, probeText};
-ghost use Rattle.images.specs.Begun.{Holds};
+ghost use Rattle.images.specs.Images.{imageIn, kindIn, argumentIn, imageText, unended, probeLine};
 use bus::Answer;
 use device::Device;
 use device::Stepped;
 use pins::Sets;
 
-fn device_in(line: &[u8]) -> Device
+pub fn device_in(line: &[u8]) -> Device
     requires { ⌜ length (now line) ≡ 359 ⌝ }
     ensures { λ d. ⌜ stateIn d ≡ imageIn (now (line .entry)) ⌝ }
 {
@@ -36,7 +34,7 @@ fn device_in(line: &[u8]) -> Device
 }
 
 // The step that the line asks.
-fn step_in(line: &[u8]) -> Stepped
+pub fn step_in(line: &[u8]) -> Stepped
     requires { ⌜ length (now line) ≡ 359 ⌝ }
     ensures { λ s. ⌜ outcome (s .answer) (stateIn (s .device)) ≡ stepped part24 (imageIn (now (line .entry))) (kindIn (now (line .entry))) (argumentIn (now (line .entry))) ⌝ }
 {
@@ -54,9 +52,9 @@ fn put_image(out: &mut [u8], at: usize, d: Device) -> usize
     let file = d.file;
     let sets = d.sets;
     let tab = text::put(out, at, b"\t");
-    let bytes = fields::put_bytes(out, tab, &file);
-    let pins = fields::put_sets(out, bytes, sets.level, sets.reference, sets.held, sets.edge);
-    fields::put_bus(out, pins, d.pointer, d.bus, d.choice)
+    let bytes = fieldtexts::put_bytes(out, tab, &file);
+    let pins = fieldtexts::put_sets(out, bytes, sets.level, sets.reference, sets.held, sets.edge);
+    fieldtexts::put_bus(out, pins, d.pointer, d.bus, d.choice)
 }
 
 // The line with which a trace tells an answer, without its newline.
@@ -72,7 +70,7 @@ fn put_answer(out: &mut [u8], at: usize, d: Device, answer: Answer) -> usize
     text::put(out, at, &line[0..end])
 }
 
-fn put_outcome(out: &mut [u8], at: usize, d: Device, answer: Answer) -> usize
+pub fn put_outcome(out: &mut [u8], at: usize, d: Device, answer: Answer) -> usize
     requires { ⌜ at + 360 ≤ length (now out) ⌝ }
     ensures { λ r. ⌜ Wrote (now (out .entry)) at (probeLine (outcome answer (stateIn d))) r (now (out .exit)) × (r ≤ at + 360) ⌝ }
 {
@@ -82,54 +80,4 @@ fn put_outcome(out: &mut [u8], at: usize, d: Device, answer: Answer) -> usize
         return text::put(out, image, b"\n");
     };
     text::put(out, told, b"\n")
-}
-
-// One line, without its newline: its answer is written from at on.
-pub fn answer_line(line: &[u8], out: &mut [u8], at: usize) -> usize
-    requires { ⌜ at + 360 ≤ length (now out) ⌝ }
-    ensures { λ r. ⌜ Wrote (now (out .entry)) at (probeText (now (line .entry))) r (now (out .exit)) × (r ≤ at + 360) ⌝ }
-{
-    if !fields::is_readable(line) {
-        return answers::put_line(out, at, Answer::Refused(7), false, 0, 0);
-    }
-    let s = step_in(line);
-    let answer = s.answer;
-    let after = s.device;
-    put_outcome(out, at, after, answer)
-}
-
-// A line that has begun, of which 360 bytes are kept: no longer line is readable.
-pub struct Line {
-    pub held: [u8; 360],
-    pub len: usize,
-}
-
-// Before the first byte of a line.
-pub fn begin() -> Line
-    ensures { λ l. ⌜ Holds l [] ⌝ }
-{
-    Line {
-        held: [0; 360],
-        len: 0,
-    }
-}
-
-// The line with these bytes more.
-pub fn grow(line: Line, part: &[u8]) -> Line
-    requires { ⌜ line .len ≤ 360 ⌝ }
-    ensures { λ l. ⌜ (l .len ≤ 360) × ((text : List ℕ) → Holds line text → Holds l (text ++ now (part .entry))) ⌝ }
-{
-    let mut held = line.held;
-    let len = pieces::keep(&mut held, line.len, part);
-    Line { held, len }
-}
-
-// The whole line's answer, written from at on.
-pub fn answer(line: Line, out: &mut [u8], at: usize) -> usize
-    requires { ⌜ (line .len ≤ 360) × (at + 360 ≤ length (now out)) ⌝ }
-    ensures { λ r. ⌜ ((text : List ℕ) → Holds line text → Wrote (now (out .entry)) at (probeText text) r (now (out .exit))) × (r ≤ at + 360) ⌝ }
-{
-    let held = line.held;
-    let len = line.len;
-    answer_line(&held[0..len], out, at)
 }

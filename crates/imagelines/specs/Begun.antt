@@ -3,7 +3,7 @@ use mathlib.Core.Path.{_≡_}
 use mathlib.Core.List.{List}
 use Prim.Native.Nat.{ℕ, _≤_}
 use lib.ListN.{take}
-use Rattle.images.specs.declared.Line.{Line}
+use Rattle.imagelines.specs.declared.Line.{Line}
 
 -- of the bytes so far the first 360 are kept
 pub record Holds (line : Line) (text : List ℕ) : Type 0 where

@@ -2,9 +2,9 @@ use mathlib.Core.Path.{_≡_}
 use native.Mathlib.Omega.{arith}
 use borrow.Author.Needs.{needs}
 use lib.ListN.{length}
-use Rattle.images.proofs.Laws.{grown-holds}
-use Rattle.images.proofs.grow.Statement.{statement}
-use Rattle.images.proofs.grow.Tie as tie
+use Rattle.imagelines.proofs.Laws.{grown-holds}
+use Rattle.imagelines.proofs.grow.Statement.{statement}
+use Rattle.imagelines.proofs.grow.Tie as tie
 
 slice-aggregate-keep : tie.Need-slice-aggregate-keep
 slice-aggregate-keep c = search needs

@@ -2,9 +2,9 @@ use native.Mathlib.Omega.{arith}
 use borrow.Author.Needs.{needs}
 use Prim.Native.Nat.{_-_}
 use lib.ListN.{length}
-use Rattle.fields.proofs.Writing.{Spelling, spelling-start, spelling-on, spelling-done}
-use Rattle.fields.proofs.put_bytes.Statement.{statement}
-use Rattle.fields.proofs.put_bytes.Tie as tie
+use Rattle.fieldtexts.proofs.Writing.{Spelling, spelling-start, spelling-on, spelling-done}
+use Rattle.fieldtexts.proofs.put_bytes.Statement.{statement}
+use Rattle.fieldtexts.proofs.put_bytes.Tie as tie
 
 abbrev Inv-loop : tie.InvT-loop
 Inv-loop out₀ at bytes end₀ i₀ out end i = Spelling out₀ at bytes out end i

@@ -1,7 +1,7 @@
 use borrow.Author.Needs.{needs}
 use Rattle.text.proofs.Laws.{wrote-both}
-use Rattle.fields.proofs.put_field.Statement.{statement}
-use Rattle.fields.proofs.put_field.Tie as tie
+use Rattle.fieldtexts.proofs.put_field.Statement.{statement}
+use Rattle.fieldtexts.proofs.put_field.Tie as tie
 
 slice-aggregate-put : tie.Need-slice-aggregate-put
 slice-aggregate-put c = search needs

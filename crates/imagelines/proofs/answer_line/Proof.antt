@@ -7,9 +7,9 @@ use Rattle.bus.specs.declared.Answer.the-variants.{Refused}
 use Rattle.text.proofs.Laws.{wrote-as}
 use Rattle.answers.proofs.Laws.{line-short}
 use Rattle.fields.proofs.Reading.{readable-long}
 use Rattle.images.proofs.Laws.{unreadable-text, probed-text}
-use Rattle.images.proofs.answer_line.Statement.{statement}
-use Rattle.images.proofs.answer_line.Tie as tie
+use Rattle.imagelines.proofs.answer_line.Statement.{statement}
+use Rattle.imagelines.proofs.answer_line.Tie as tie
 
 is-readable-requires : tie.Need-is-readable-requires
 is-readable-requires c κs = search needs

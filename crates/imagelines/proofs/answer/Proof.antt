@@ -2,9 +2,9 @@ use mathlib.Core.Path.{_≡_}
 use native.Mathlib.Omega.{arith}
 use borrow.Author.Needs.{needs}
 use lib.ListN.{length}
-use Rattle.images.proofs.Laws.{held-answer}
-use Rattle.images.proofs.answer.Statement.{statement}
-use Rattle.images.proofs.answer.Tie as tie
+use Rattle.imagelines.proofs.Laws.{held-answer}
+use Rattle.imagelines.proofs.answer.Statement.{statement}
+use Rattle.imagelines.proofs.answer.Tie as tie
 
 sub-answer-line : tie.Need-sub-answer-line
 sub-answer-line c = search needs
