@@ -59,8 +59,8 @@ pub fn write_edge(file: &[u8; 128], x: Sets, k: u8, v: u8) -> Sets
 {
     pinmarks::write_edge(
         x,
-        ports::edge_set(k),
-        ports::rising_at(v, k),
-        ports::falling_at(v, k),
+        edges::edge_set(k),
+        edges::rising_at(v, k),
+        edges::falling_at(v, k),
     )
 }

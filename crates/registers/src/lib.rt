@@ -36,8 +36,8 @@ fn edge_fields(file: &[u8; 128]) -> Edges
     let e = file[0x64];
     let f = file[0x65];
     Edges {
-        rising: ports::rising6(a, b, c, d, e, f),
-        falling: ports::falling6(a, b, c, d, e, f),
+        rising: edges::rising6(a, b, c, d, e, f),
+        falling: edges::falling6(a, b, c, d, e, f),
     }
 }
 
@@ -45,7 +45,7 @@ fn edge_fields(file: &[u8; 128]) -> Edges
 pub fn edged(file: &[u8; 128]) -> u64
     ensures { λ s. ⌜ ((i : ℕ) → i < 24 → bit s i ≡ (risingBit (edgeByte part24 (now (file .entry)) i) i || fallingBit (edgeByte part24 (now (file .entry)) i) i)) ⌝ }
 {
-    ports::either6(
+    edges::either6(
         file[0x60],
         file[0x61],
         file[0x62],

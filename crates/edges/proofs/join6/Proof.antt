@@ -1,7 +1,7 @@
 use borrow.Author.Needs.{needs}
-use Rattle.ports.proofs.Bytes.{joined6, six-small}
-use Rattle.ports.proofs.join6.Statement.{statement}
-use Rattle.ports.proofs.join6.Tie as tie
+use Rattle.edges.proofs.Fields.{joined6, six-small}
+use Rattle.edges.proofs.join6.Statement.{statement}
+use Rattle.edges.proofs.join6.Tie as tie
 
 mul-high : tie.Need-mul-high
 mul-high c = search needs

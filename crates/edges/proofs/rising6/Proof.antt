@@ -1,9 +1,9 @@
 use borrow.Author.Needs.{needs}
 use mathlib.Core.Path.{_∙_}
 use mathlib.Core.List.{[], _∷_}
-use Rattle.ports.proofs.Bytes.{there-inside, doubled, there-bit}
-use Rattle.ports.proofs.rising6.Statement.{statement}
-use Rattle.ports.proofs.rising6.Tie as tie
+use Rattle.edges.proofs.Fields.{there-inside, doubled, there-bit}
+use Rattle.edges.proofs.rising6.Statement.{statement}
+use Rattle.edges.proofs.rising6.Tie as tie
 
 join6-requires : tie.Need-join6-requires
 join6-requires c κs = search needs

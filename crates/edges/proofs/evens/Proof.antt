@@ -2,11 +2,11 @@ use mathlib.Core.Path.{_≡_}
 use Prim.Native.Nat.{_*_, _<_}
 use Rattle.bits.specs.Bits.{bit}
 use Rattle.bits.proofs.Laws.{tabulate-lt}
 use Rattle.ports.specs.Ports.{evensOf}
-use Rattle.ports.proofs.Bytes.{evens-set}
+use Rattle.edges.proofs.Fields.{evens-set}
 use native.Mathlib.Omega.{arith}
-use Rattle.ports.proofs.evens.Statement.{statement}
-use Rattle.ports.proofs.evens.Tie as tie
+use Rattle.edges.proofs.evens.Statement.{statement}
+use Rattle.edges.proofs.evens.Tie as tie
 
 returns : tie.Need-returns
 returns c =

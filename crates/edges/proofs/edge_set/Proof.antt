@@ -1,10 +1,10 @@
 use borrow.Author.Needs.{needs}
 use mathlib.Core.Path.{_∙_}
 use Rattle.ports.specs.Ports.{inEdge}
 use Rattle.ports.proofs.Bytes.{all-ones}
 use native.Mathlib.Omega.{arith}
-use Rattle.ports.proofs.edge_set.Statement.{statement}
-use Rattle.ports.proofs.edge_set.Tie as tie
+use Rattle.edges.proofs.edge_set.Statement.{statement}
+use Rattle.edges.proofs.edge_set.Tie as tie
 
 at-edge-requires : tie.Need-at-edge-requires
 at-edge-requires c κs = search needs

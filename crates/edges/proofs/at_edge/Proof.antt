@@ -2,8 +2,8 @@ use borrow.Author.Needs.{needs}
 use Rattle.bits.proofs.Join.{placed}
 use Prim.Native.Nat.{_*_}
 use native.Mathlib.Omega.{arith}
-use Rattle.ports.proofs.at_edge.Statement.{statement}
-use Rattle.ports.proofs.at_edge.Tie as tie
+use Rattle.edges.proofs.at_edge.Statement.{statement}
+use Rattle.edges.proofs.at_edge.Tie as tie
 
 mul-result : tie.Need-mul-result
 mul-result c = search needs
