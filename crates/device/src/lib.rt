@@ -246,7 +246,7 @@ impl Device {
     {
         let file = self.file;
         if n < 128 {
-            return views::show(&file, self.sets, n);
+            return fetches::show(&file, self.sets, n);
         }
         0
     }

@@ -191,7 +191,7 @@ pub extern "C" fn ghixramel_arrays_show(
     if lookup::is_reserved(n) {
         return 2;
     }
-    *byte = [views::show(file, rest.sets, n)];
+    *byte = [fetches::show(file, rest.sets, n)];
     0
 }
 

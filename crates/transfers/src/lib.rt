@@ -108,8 +108,8 @@ pub fn fetch(file: &[u8; 128], r: Rest, acknowledged: bool) -> Out
     let n = r.pointer;
     let x = r.sets;
     let choice = r.choice;
-    let shown = views::show(file, x, n);
-    let sets = views::fetch(x, n);
+    let shown = fetches::show(file, x, n);
+    let sets = fetches::fetch(x, n);
     if acknowledged {
         let next = lookup::next_of(n);
         return bus::read(

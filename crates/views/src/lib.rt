@@ -1,14 +1,12 @@
-// What can be seen of the registers and pins: drives, INT, and the byte that a fetch shows; and what a fetch does.
+// What can be seen of the registers and pins: drives, input port bits, status bits and INT.
 ghost use mathlib.Core.Path.{_≡_};
-ghost use mathlib.Core.List.{List};
 ghost use Prim.Native.Nat.{ℕ, _<_, _^_, _/_};
 ghost use lib.ListN.{getD};
 ghost use Rattle.bits.specs.Bits.{bit};
-ghost use Rattle.pins.specs.AllPins.{Within};
 ghost use Rattle.pins.specs.OnePin.{inputOf, statusOf};
 ghost use Rattle.pins.specs.declared.Sets.{Sets};
 ghost use Rattle.map.specs.Map.{part24};
-ghost use Rattle.registers.specs.Registers.{core, onePin, drivenLow, drivenHigh, intAsserted, shown, fetched};
+ghost use Rattle.registers.specs.Registers.{core, onePin, drivenLow, drivenHigh, intAsserted};
 use pins::Sets;
 use pins::Sources;
 
@@ -39,7 +37,7 @@ pub fn high(file: &[u8; 128]) -> u64
 }
 
 // The input port bits.
-fn inputs(file: &[u8; 128], x: Sets) -> u64
+pub fn inputs(file: &[u8; 128], x: Sets) -> u64
     ensures { λ s. ⌜ ((i : ℕ) → i < 24 → bit s i ≡ inputOf (onePin part24 (core (now (file .entry)) x) i)) ⌝ }
 {
     let configuration = registers::group(file, 0x0c);
@@ -57,7 +55,7 @@ fn inputs(file: &[u8; 128], x: Sets) -> u64
 }
 
 // The pins whose status bit is 1.
-fn statuses(file: &[u8; 128], x: Sets) -> u64
+pub fn statuses(file: &[u8; 128], x: Sets) -> u64
     ensures { λ s. ⌜ ((i : ℕ) → i < 24 → bit s i ≡ statusOf (onePin part24 (core (now (file .entry)) x) i)) × (s < 2 ^ 24) ⌝ }
 {
     // a field that asks for something counts, whatever it asks for
@@ -76,39 +74,4 @@ pub fn int(file: &[u8; 128], x: Sets) -> bool
     ensures { λ r. ⌜ r ≡ intAsserted part24 (core (now (file .entry)) x) ⌝ }
 {
     pinviews::int_asserted(statuses(file, x))
-}
-
-// The byte that a fetch of register n shows.
-pub fn show(file: &[u8; 128], x: Sets, n: u8) -> u8
-    requires { ⌜ n < 128 ⌝ }
-    ensures { λ b. ⌜ b ≡ shown part24 (core (now (file .entry)) x) n ⌝ }
-{
-    let kind = lookup::kind_of(n);
-    if 3 < kind {
-        if kind == 9 {
-            return 0;
-        }
-        return file[n as usize];
-    }
-    if kind == 2 {
-        return ports::byte_of(statuses(file, x), n % 4);
-    }
-    if kind == 1 {
-        return ports::byte_of(inputs(file, x), n % 4);
-    }
-    if kind == 3 {
-        return ports::byte_of(inputs(file, x), n % 4);
-    }
-    0
-}
-
-// What a fetch of register n does to the pins.
-pub fn fetch(x: Sets, n: u8) -> Sets
-    requires { ⌜ (n < 128) × Within 24 x ⌝ }
-    ensures { λ y. ⌜ ((file : List ℕ) → core file y ≡ fetched part24 (core file x) n) ⌝ }
-{
-    if lookup::kind_of(n) == 1 {
-        return pinmarks::fetch_input(x, ports::port_set(n % 4));
-    }
-    x
 }

@@ -5,10 +5,10 @@ use Rattle.map.specs.Map.{part24, kindAt, code}
 use Rattle.map.specs.Map.Kind.{Reserved, Input, Status, InputStatus, Clear}
 use Rattle.map.proofs.Rows.{kind-is}
 use Rattle.registers.specs.Registers.{core, onePin, shownAs}
-use Rattle.views.proofs.Showing.{at-kind, show-file, show-port}
+use Rattle.fetches.proofs.Showing.{at-kind, show-file, show-port}
 use native.Mathlib.Omega.{arith}
-use Rattle.views.proofs.show.Statement.{statement}
-use Rattle.views.proofs.show.Tie as tie
+use Rattle.fetches.proofs.show.Statement.{statement}
+use Rattle.fetches.proofs.show.Tie as tie
 
 kind-of-requires : tie.Need-kind-of-requires
 kind-of-requires c κs = search needs

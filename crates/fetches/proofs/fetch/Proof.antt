@@ -3,9 +3,9 @@ use mathlib.Core.Path.{_≡_, _∙_}
 use Rattle.map.specs.Map.{part24, kindAt}
 use Rattle.map.specs.Map.Kind.{Input}
 use Rattle.map.proofs.Rows.{kind-is}
-use Rattle.views.proofs.Showing.{other-register, input-register}
-use Rattle.views.proofs.fetch.Statement.{statement}
-use Rattle.views.proofs.fetch.Tie as tie
+use Rattle.fetches.proofs.Showing.{other-register, input-register}
+use Rattle.fetches.proofs.fetch.Statement.{statement}
+use Rattle.fetches.proofs.fetch.Tie as tie
 
 kind-of-requires : tie.Need-kind-of-requires
 kind-of-requires c κs = search needs
