@@ -1,6 +1,5 @@
 #!/usr/bin/env bash
 # The program trace: the shipped examples, and seeded logs against the independent model (SEED and LOGS on request: LOGS=20000 SEED=7 tests/trace.sh).
-# The model itself: its own tests, and that the corpus tells each of its one-rule mutants from it.
 set -u
 cd "$(dirname "${BASH_SOURCE[0]}")/.." || exit 2
 bad=0
@@ -35,9 +34,4 @@ lines=$(head -c 10000000 /dev/zero | tr '\0' 'x' | ./ghixramel trace | wc -l)
 [ "$lines" -eq 2 ] || fail "a long line gave $lines lines, wanted the header and one refusal"
 
 python3 tests/model/compare.py trace ./ghixramel trace --seed "${SEED:-1}" --count "${LOGS:-1000}" || bad=1
-# neither touches the program, so the two share the two cores
-python3 tests/model/selftest.py &
-selftest=$!
-python3 tests/model/mutants.py "${SEED:-1}" || bad=1
-wait "$selftest" || bad=1
 exit $bad
