@@ -1,8 +1,8 @@
 use borrow.Author.Needs.{needs}
 use mathlib.Core.Path.{_∙_}
 use Rattle.bits.proofs.Laws.{tabulated}
-use Rattle.planner.proofs.Answering.{fails, holds, whole, kinds}
-use Rattle.planner.proofs.Ports.{stuck-bit}
+use Rattle.promises.proofs.Answering.{fails, holds, whole, kinds}
+use Rattle.halfway.proofs.Ports.{stuck-bit}
 use Rattle.planner.proofs.stuck_pins.Statement.{statement}
 use Rattle.planner.proofs.stuck_pins.Tie as tie
 

@@ -1,0 +1,38 @@
+-- The sixteen writes, and those of them that a plan lists.
+use mathlib.Core.Bool.{cond}
+use mathlib.Core.List.{List, [], _∷_, _++_}
+use mathlib.Core.Path.{_≡_}
+use Prim.Native.Nat.{ℕ, zero, suc, _*_, _≤_, _<_}
+use lib.Dec.{eqb}
+use lib.ListN.{getD, length, drop}
+use Rattle.quiet.specs.Settings.{Settings}
+use Rattle.halfway.specs.declared.Middle.{Middle}
+use Rattle.laying.specs.declared.Steps.{Steps}
+
+-- the sixteen writes: what each finds, and what it writes
+pub record Laid (s g : Settings) (a b c : Middle) (r : Steps) : Type 0 where
+  pub was-is : r .was
+      ≡ getD s 0 0 ∷ getD s 3 0 ∷ getD s 1 0 ∷ getD s 4 0 ∷ getD s 2 0 ∷ getD s 5 0 ∷ getD s 6 0
+      ∷ getD s 7 0 ∷ a .output ∷ a .configuration ∷ getD s 8 0 ∷ b .output ∷ b .configuration ∷ getD s 9 0 ∷ c .output ∷ c .configuration ∷ []
+  pub to-is : r .to
+      ≡ a .output ∷ a .configuration ∷ b .output ∷ b .configuration ∷ c .output ∷ c .configuration ∷ getD g 6 0
+      ∷ getD g 7 0 ∷ getD g 0 0 ∷ getD g 3 0 ∷ getD g 8 0 ∷ getD g 1 0 ∷ getD g 4 0 ∷ getD g 9 0 ∷ getD g 2 0 ∷ getD g 5 0 ∷ []
+
+-- the pairs of the first i places at which `was` and `to` differ
+unfoldable pub kept : (regs was to : List ℕ) → ℕ → List ℕ
+kept regs was to zero = []
+kept regs was to (suc i) = kept regs was to i ++ cond (eqb (getD was i 0) (getD to i 0)) [] (getD regs i 0 ∷ getD to i 0 ∷ [])
+
+-- the bytes of `out` at the front of the buffer: n pairs
+pub record Emitted (out : List ℕ) (n : ℕ) (before after : List ℕ) : Type 0 where
+  pub laid : after ≡ out ++ drop (2 * n) before
+  pub pairs : length out ≡ 2 * n
+  pub few : n ≤ 16
+
+-- what `lay` needs
+pub record Ready (start goal buf : List ℕ) : Type 0 where
+  pub start-whole : length start ≡ 10
+  pub goal-whole : length goal ≡ 10
+  pub start-kinds : getD start 6 0 < 8
+  pub kinds : getD goal 6 0 < 8
+  pub room : 32 ≤ length buf

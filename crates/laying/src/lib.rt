@@ -1,0 +1,108 @@
+// Lays the plan at the start of a buffer: of its sixteen writes those that change their register.
+ghost use mathlib.Core.Path.{_≡_};
+ghost use Prim.Native.Nat.{_≤_};
+ghost use lib.ListN.{length};
+ghost use Rattle.promises.specs.Answer.{Planted};
+ghost use Rattle.laying.specs.Laid.{Laid, kept, Emitted, Ready};
+use halfway::Middle;
+
+// What each of the sixteen writes finds, and what it writes.
+struct Steps {
+    was: [u8; 16],
+    to: [u8; 16],
+}
+
+fn steps_of(s: &[u8], g: &[u8], a: Middle, b: Middle, c: Middle) -> Steps
+    requires { ⌜ (length (now s) ≡ 10) × (length (now g) ≡ 10) ⌝ }
+    ensures { λ r. ⌜ Laid (now (s .entry)) (now (g .entry)) a b c r ⌝ }
+{
+    let was = [
+        s[0],
+        s[3],
+        s[1],
+        s[4],
+        s[2],
+        s[5],
+        s[6],
+        s[7],
+        a.output,
+        a.configuration,
+        s[8],
+        b.output,
+        b.configuration,
+        s[9],
+        c.output,
+        c.configuration,
+    ];
+    let to = [
+        a.output,
+        a.configuration,
+        b.output,
+        b.configuration,
+        c.output,
+        c.configuration,
+        g[6],
+        g[7],
+        g[0],
+        g[3],
+        g[8],
+        g[1],
+        g[4],
+        g[9],
+        g[2],
+        g[5],
+    ];
+    Steps { was, to }
+}
+
+const REGISTERS: [u8; 16] = [
+    0x04,
+    0x0c,
+    0x05,
+    0x0d,
+    0x06,
+    0x0e,
+    0x5c,
+    0x70,
+    0x04,
+    0x0c,
+    0x71,
+    0x05,
+    0x0d,
+    0x72,
+    0x06,
+    0x0e,
+];
+
+// Lays the pairs at which `was` and `to` differ at the start of the buffer; their number.
+fn emit(regs: &[u8; 16], was: &[u8; 16], to: &[u8; 16], buf: &mut [u8]) -> usize
+    requires { ⌜ 32 ≤ length (now buf) ⌝ }
+    ensures { λ r. ⌜ Emitted (kept (now (regs .entry)) (now (was .entry)) (now (to .entry)) 16) r (now (buf .entry)) (now (buf .exit)) ⌝ }
+{
+    let mut n = 0;
+    let mut i = 0;
+    while i < 16 {
+        if was[i] != to[i] {
+            buf[2 * n] = regs[i];
+            buf[2 * n + 1] = to[i];
+            n += 1;
+        }
+        i += 1;
+    }
+    n
+}
+
+// Lays the plan at the start of the buffer; the number of its writes.
+pub fn lay(start: &[u8], goal: &[u8], buf: &mut [u8]) -> usize
+    requires { ⌜ Ready (now start) (now goal) (now buf) ⌝ }
+    ensures { λ r. ⌜ Planted (now (start .entry)) (now (goal .entry)) r (now (buf .entry)) (now (buf .exit)) ⌝ }
+{
+    let a = halfway::mid_port(start, goal, 0);
+    let b = halfway::mid_port(start, goal, 1);
+    let c = halfway::mid_port(start, goal, 2);
+    let x = steps_of(start, goal, a, b, c);
+    let was = x.was;
+    let to = x.to;
+    let regs = REGISTERS;
+    emit(&regs, &was, &to, buf)
+}
