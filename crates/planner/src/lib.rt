@@ -35,10 +35,8 @@ pub fn stuck_pins(start: &[u8], goal: &[u8]) -> u64
     ensures { λ r. ⌜ r ≡ cond (formed (now (start .entry)) && formed (now (goal .entry)))
         (tabulate 24 (λ i. stuck (bitsOf shape24 (now (start .entry)) (i / 8) (i % 8)) (bitsOf shape24 (now (goal .entry)) (i / 8) (i % 8)))) 0 ⌝ }
 {
-    if !halfway::is_formed(start) {
-        return 0;
-    }
-    if !halfway::is_formed(goal) {
+    let formed = halfway::is_formed(start) & halfway::is_formed(goal);
+    if !formed {
         return 0;
     }
     let a = halfway::port_stuck(start, goal, 0);
