@@ -10,9 +10,8 @@ use lib.ListN.{length, getD, drop}
 use Rattle.quiet.specs.Settings.{Shape, shape24, Settings, Write, placeOf, stored, put}
 use Rattle.quiet.specs.Route.{midOutputs, midConfigurations, route, needed, planOf, bytesOf}
 use Rattle.halfway.specs.Halfway.{Halfway}
-use Rattle.laying.specs.Laid.{kept, Emitted, Laid}
+use Rattle.laying.specs.Sixteen.{wasOf, toOf, kept, Emitted}
 use Rattle.halfway.specs.declared.Middle.{Middle}
-use Rattle.laying.specs.declared.Steps.{Steps}
 use Rattle.quiet.proofs.Quietly.{listOf, getsOf, both-listed}
 
 abbrev registers : List ℕ
@@ -94,20 +93,20 @@ kept-plan s g hs hg small =
     (written-out (getsOf s) (getsOf g) small)
 
 -- ---- what `lay` promises
-pub laid-plan : (s g : Settings) (a b c : Middle) (r : Steps) (n : ℕ) (before after : List ℕ)
+pub laid-plan : (s g : Settings) (a b c : Middle) (was to : List ℕ) (n : ℕ) (before after : List ℕ)
     → length s ≡ 10 → length g ≡ 10 → getD g 6 0 < 8
-    → Halfway s g 0 a → Halfway s g 1 b → Halfway s g 2 c → Laid s g a b c r → Emitted (kept registers (r .was) (r .to) 16) n before after
+    → Halfway s g 0 a → Halfway s g 1 b → Halfway s g 2 c → was ≡ wasOf s a b c → to ≡ toOf g a b c → Emitted (kept registers was to 16) n before after
     → (n ≡ length (planOf shape24 s g)) × (after ≡ bytesOf (planOf shape24 s g) ++ drop (2 * length (planOf shape24 s g)) before)
-laid-plan s g a b c r n before after hs hg small da db dc d e = (count, e .laid ∙ ap₂ (λ (l : List ℕ) (k : ℕ). l ++ drop (2 * k) before) bytes count)
+laid-plan s g a b c was to n before after hs hg small da db dc dw dt e = (count, e .laid ∙ ap₂ (λ (l : List ℕ) (k : ℕ). l ++ drop (2 * k) before) bytes count)
   where
-    was : r .was ≡ found s g
-    was = cc
+    finds : was ≡ found s g
+    finds = cc
 
-    to : r .to ≡ meant s g
-    to = cc
+    means : to ≡ meant s g
+    means = cc
 
-    bytes : kept registers (r .was) (r .to) 16 ≡ bytesOf (planOf shape24 s g)
-    bytes = ap₂ (λ (u v : List ℕ). kept registers u v 16) was to ∙ kept-plan s g hs hg small
+    bytes : kept registers was to 16 ≡ bytesOf (planOf shape24 s g)
+    bytes = ap₂ (λ (u v : List ℕ). kept registers u v 16) finds means ∙ kept-plan s g hs hg small
 
     count : n ≡ length (planOf shape24 s g)
     count = omega (arith, e .pairs, ap length bytes, bytes-length (planOf shape24 s g))

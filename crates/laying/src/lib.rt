@@ -3,20 +3,15 @@ ghost use mathlib.Core.Path.{_≡_};
 ghost use Prim.Native.Nat.{_≤_};
 ghost use lib.ListN.{length};
 ghost use Rattle.promises.specs.Answer.{Planted};
-ghost use Rattle.laying.specs.Laid.{Laid, kept, Emitted, Ready};
+ghost use Rattle.laying.specs.Sixteen.{wasOf, toOf, kept, Emitted, Ready};
 use halfway::Middle;
 
-// What each of the sixteen writes finds, and what it writes.
-struct Steps {
-    was: [u8; 16],
-    to: [u8; 16],
-}
-
-fn steps_of(s: &[u8], g: &[u8], a: Middle, b: Middle, c: Middle) -> Steps
-    requires { ⌜ (length (now s) ≡ 10) × (length (now g) ≡ 10) ⌝ }
-    ensures { λ r. ⌜ Laid (now (s .entry)) (now (g .entry)) a b c r ⌝ }
+// What each of the sixteen writes finds.
+fn was_of(s: &[u8], a: Middle, b: Middle, c: Middle) -> [u8; 16]
+    requires { ⌜ length (now s) ≡ 10 ⌝ }
+    ensures { λ r. ⌜ r ≡ wasOf (now (s .entry)) a b c ⌝ }
 {
-    let was = [
+    [
         s[0],
         s[3],
         s[1],
@@ -33,8 +28,15 @@ fn steps_of(s: &[u8], g: &[u8], a: Middle, b: Middle, c: Middle) -> Steps
         s[9],
         c.output,
         c.configuration,
-    ];
-    let to = [
+    ]
+}
+
+// What each of them writes.
+fn to_of(g: &[u8], a: Middle, b: Middle, c: Middle) -> [u8; 16]
+    requires { ⌜ length (now g) ≡ 10 ⌝ }
+    ensures { λ r. ⌜ r ≡ toOf (now (g .entry)) a b c ⌝ }
+{
+    [
         a.output,
         a.configuration,
         b.output,
@@ -51,8 +53,7 @@ fn steps_of(s: &[u8], g: &[u8], a: Middle, b: Middle, c: Middle) -> Steps
         g[9],
         g[2],
         g[5],
-    ];
-    Steps { was, to }
+    ]
 }
 
 const REGISTERS: [u8; 16] = [
@@ -100,9 +101,8 @@ pub fn lay(start: &[u8], goal: &[u8], buf: &mut [u8]) -> usize
     let a = halfway::mid_port(start, goal, 0);
     let b = halfway::mid_port(start, goal, 1);
     let c = halfway::mid_port(start, goal, 2);
-    let x = steps_of(start, goal, a, b, c);
-    let was = x.was;
-    let to = x.to;
+    let was = was_of(start, a, b, c);
+    let to = to_of(goal, a, b, c);
     let regs = REGISTERS;
     emit(&regs, &was, &to, buf)
 }

@@ -7,16 +7,18 @@ use lib.Dec.{eqb}
 use lib.ListN.{getD, length, drop}
 use Rattle.quiet.specs.Settings.{Settings}
 use Rattle.halfway.specs.declared.Middle.{Middle}
-use Rattle.laying.specs.declared.Steps.{Steps}
 
--- the sixteen writes: what each finds, and what it writes
-pub record Laid (s g : Settings) (a b c : Middle) (r : Steps) : Type 0 where
-  pub was-is : r .was
-      ≡ getD s 0 0 ∷ getD s 3 0 ∷ getD s 1 0 ∷ getD s 4 0 ∷ getD s 2 0 ∷ getD s 5 0 ∷ getD s 6 0
-      ∷ getD s 7 0 ∷ a .output ∷ a .configuration ∷ getD s 8 0 ∷ b .output ∷ b .configuration ∷ getD s 9 0 ∷ c .output ∷ c .configuration ∷ []
-  pub to-is : r .to
-      ≡ a .output ∷ a .configuration ∷ b .output ∷ b .configuration ∷ c .output ∷ c .configuration ∷ getD g 6 0
-      ∷ getD g 7 0 ∷ getD g 0 0 ∷ getD g 3 0 ∷ getD g 8 0 ∷ getD g 1 0 ∷ getD g 4 0 ∷ getD g 9 0 ∷ getD g 2 0 ∷ getD g 5 0 ∷ []
+-- what each of the sixteen writes finds
+abbrev pub wasOf : Settings → (a b c : Middle) → List ℕ
+wasOf s a b c =
+    getD s 0 0 ∷ getD s 3 0 ∷ getD s 1 0 ∷ getD s 4 0 ∷ getD s 2 0 ∷ getD s 5 0 ∷ getD s 6 0
+    ∷ getD s 7 0 ∷ a .output ∷ a .configuration ∷ getD s 8 0 ∷ b .output ∷ b .configuration ∷ getD s 9 0 ∷ c .output ∷ c .configuration ∷ []
+
+-- what each of them writes
+abbrev pub toOf : Settings → (a b c : Middle) → List ℕ
+toOf g a b c =
+    a .output ∷ a .configuration ∷ b .output ∷ b .configuration ∷ c .output ∷ c .configuration ∷ getD g 6 0
+    ∷ getD g 7 0 ∷ getD g 0 0 ∷ getD g 3 0 ∷ getD g 8 0 ∷ getD g 1 0 ∷ getD g 4 0 ∷ getD g 9 0 ∷ getD g 2 0 ∷ getD g 5 0 ∷ []
 
 -- the pairs of the first i places at which `was` and `to` differ
 unfoldable pub kept : (regs was to : List ℕ) → ℕ → List ℕ
