@@ -10,7 +10,8 @@ use lib.ListN.{length, getD, drop}
 use Rattle.quiet.specs.Settings.{Shape, shape24, Settings, Write, placeOf, stored, put}
 use Rattle.quiet.specs.Route.{midOutputs, midConfigurations, route, needed, planOf, bytesOf}
 use Rattle.halfway.specs.Halfway.{Halfway}
-use Rattle.laying.specs.Sixteen.{wasOf, toOf, kept, Emitted}
+use Rattle.pairs.specs.Pairs.{kept, Emitted}
+use Rattle.laying.specs.Sixteen.{wasOf, toOf}
 use Rattle.halfway.specs.declared.Middle.{Middle}
 use Rattle.quiet.proofs.Quietly.{listOf, getsOf, both-listed}
 

@@ -1,10 +1,8 @@
--- The sixteen writes, and those of them that a plan lists.
-use mathlib.Core.Bool.{cond}
-use mathlib.Core.List.{List, [], _∷_, _++_}
+-- The sixteen writes.
+use mathlib.Core.List.{List, [], _∷_}
 use mathlib.Core.Path.{_≡_}
-use Prim.Native.Nat.{ℕ, zero, suc, _*_, _≤_, _<_}
-use lib.Dec.{eqb}
-use lib.ListN.{getD, length, drop}
+use Prim.Native.Nat.{ℕ, _≤_, _<_}
+use lib.ListN.{getD, length}
 use Rattle.quiet.specs.Settings.{Settings}
 use Rattle.halfway.specs.declared.Middle.{Middle}
 
@@ -19,17 +17,6 @@ abbrev pub toOf : Settings → (a b c : Middle) → List ℕ
 toOf g a b c =
     a .output ∷ a .configuration ∷ b .output ∷ b .configuration ∷ c .output ∷ c .configuration ∷ getD g 6 0
     ∷ getD g 7 0 ∷ getD g 0 0 ∷ getD g 3 0 ∷ getD g 8 0 ∷ getD g 1 0 ∷ getD g 4 0 ∷ getD g 9 0 ∷ getD g 2 0 ∷ getD g 5 0 ∷ []
-
--- the pairs of the first i places at which `was` and `to` differ
-unfoldable pub kept : (regs was to : List ℕ) → ℕ → List ℕ
-kept regs was to zero = []
-kept regs was to (suc i) = kept regs was to i ++ cond (eqb (getD was i 0) (getD to i 0)) [] (getD regs i 0 ∷ getD to i 0 ∷ [])
-
--- the bytes of `out` at the front of the buffer: n pairs
-pub record Emitted (out : List ℕ) (n : ℕ) (before after : List ℕ) : Type 0 where
-  pub laid : after ≡ out ++ drop (2 * n) before
-  pub pairs : length out ≡ 2 * n
-  pub few : n ≤ 16
 
 -- what `lay` needs
 pub record Ready (start goal buf : List ℕ) : Type 0 where

@@ -1,9 +1,8 @@
 // Lays the plan at the start of a buffer: of its sixteen writes those that change their register.
 ghost use mathlib.Core.Path.{_≡_};
-ghost use Prim.Native.Nat.{_≤_};
 ghost use lib.ListN.{length};
 ghost use Rattle.promises.specs.Answer.{Planted};
-ghost use Rattle.laying.specs.Sixteen.{wasOf, toOf, kept, Emitted, Ready};
+ghost use Rattle.laying.specs.Sixteen.{wasOf, toOf, Ready};
 use halfway::Middle;
 
 // What each of the sixteen writes finds.
@@ -75,24 +74,6 @@ const REGISTERS: [u8; 16] = [
     0x0e,
 ];
 
-// Lays the pairs at which `was` and `to` differ at the start of the buffer; their number.
-fn emit(regs: &[u8; 16], was: &[u8; 16], to: &[u8; 16], buf: &mut [u8]) -> usize
-    requires { ⌜ 32 ≤ length (now buf) ⌝ }
-    ensures { λ r. ⌜ Emitted (kept (now (regs .entry)) (now (was .entry)) (now (to .entry)) 16) r (now (buf .entry)) (now (buf .exit)) ⌝ }
-{
-    let mut n = 0;
-    let mut i = 0;
-    while i < 16 {
-        if was[i] != to[i] {
-            buf[2 * n] = regs[i];
-            buf[2 * n + 1] = to[i];
-            n += 1;
-        }
-        i += 1;
-    }
-    n
-}
-
 // Lays the plan at the start of the buffer; the number of its writes.
 pub fn lay(start: &[u8], goal: &[u8], buf: &mut [u8]) -> usize
     requires { ⌜ Ready (now start) (now goal) (now buf) ⌝ }
@@ -104,5 +85,5 @@ pub fn lay(start: &[u8], goal: &[u8], buf: &mut [u8]) -> usize
     let was = was_of(start, a, b, c);
     let to = to_of(goal, a, b, c);
     let regs = REGISTERS;
-    emit(&regs, &was, &to, buf)
+    pairs::emit(&regs, &was, &to, buf)
 }

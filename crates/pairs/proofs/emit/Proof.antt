@@ -4,9 +4,9 @@ use Prim.Native.Nat.{_-_}
 use mathlib.Core.Logic.{⊎-elim}
 use native.Mathlib.Omega.{arith}
 use lib.ListN.{length-set}
-use Rattle.laying.proofs.Laying.{Laying, begin, skip, take-on, finish}
-use Rattle.laying.proofs.emit.Statement.{statement}
-use Rattle.laying.proofs.emit.Tie as tie
+use Rattle.pairs.proofs.Laying.{Laying, begin, skip, take-on, finish}
+use Rattle.pairs.proofs.emit.Statement.{statement}
+use Rattle.pairs.proofs.emit.Tie as tie
 
 abbrev Inv-loop : tie.InvT-loop
 Inv-loop regs was to buf₀ n₀ i₀ buf n i = Laying regs was to buf₀ buf n i

@@ -8,7 +8,7 @@ use native.Mathlib.Omega.{arith}
 use borrow.Author.Tests.{eq-eqb, ne-eqb}
 use lib.ListN.{length, getD, set, drop, length-append, length-set}
 use lib.Seq.{drop-cons, set-at}
-use Rattle.laying.specs.Sixteen.{kept, Emitted}
+use Rattle.pairs.specs.Pairs.{kept, Emitted}
 
 -- one pair more
 laid-pair : (out before : List ℕ) (n r v : ℕ) → length out ≡ 2 * n → 2 * n + 1 < length before
