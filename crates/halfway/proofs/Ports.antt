@@ -16,8 +16,9 @@ use Rattle.ports.proofs.Bytes.{three}
 use Rattle.quiet.specs.Settings.{shape24, Settings, PinBits, bitsOf}
 use Rattle.quiet.specs.Order.{stuck}
 use Rattle.quiet.specs.Route.{midConfiguration, midOutput, midConfigurations, midOutputs}
-use Rattle.halfway.specs.Halfway.{pinIn, Loaded}
-use Rattle.halfway.specs.declared.PortBytes.{PortBytes}
+use Rattle.bytewise.specs.Bytes.{pinIn}
+use Rattle.bytewise.specs.declared.PortBytes.{PortBytes}
+use Rattle.halfway.specs.Halfway.{Loaded}
 
 pin-is : (s : Settings) (k : ℕ) (x : PortBytes) → Loaded s k x → (j : ℕ) → j < 8 → pinIn x j ≡ bitsOf shape24 s k j
 pin-is s k x d j h = λ i. record {

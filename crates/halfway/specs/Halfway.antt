@@ -3,14 +3,10 @@ use mathlib.Core.Path.{_≡_}
 use Prim.Native.Nat.{ℕ, _+_, _<_}
 use lib.ListN.{getD}
 use Rattle.bits.specs.Bits.{bit}
-use Rattle.quiet.specs.Settings.{shape24, Settings, PinBits}
+use Rattle.quiet.specs.Settings.{shape24, Settings}
 use Rattle.quiet.specs.Route.{midOutputs, midConfigurations}
-use Rattle.halfway.specs.declared.PortBytes.{PortBytes}
+use Rattle.bytewise.specs.declared.PortBytes.{PortBytes}
 use Rattle.halfway.specs.declared.Middle.{Middle}
-
--- bit j of a port's four bytes
-abbrev pub pinIn : PortBytes → ℕ → PinBits
-pinIn x j = record { output = bit (x .output) j; configuration = bit (x .configuration) j; portKind = bit (x .kind) j; pinKind = bit (x .flip) j }
 
 -- port k's bytes; its bit in the port kinds for each of its pins
 pub record Loaded (s : Settings) (k : ℕ) (x : PortBytes) : Type 0 where

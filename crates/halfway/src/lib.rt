@@ -5,27 +5,8 @@ ghost use lib.ListN.{length, getD};
 ghost use Rattle.bits.specs.Bits.{tabulate};
 ghost use Rattle.quiet.specs.Settings.{shape24, bitsOf};
 ghost use Rattle.quiet.specs.Order.{stuck, blocked};
-ghost use Rattle.quiet.specs.Route.{midConfiguration, midOutput};
-ghost use Rattle.promises.specs.Answer.{formed};
-ghost use Rattle.halfway.specs.Halfway.{pinIn, Loaded, Halfway};
-
-// One port's bytes: bit j of each belongs to pin j of the port.
-struct PortBytes {
-    output: u8,
-    configuration: u8,
-    kind: u8,
-    flip: u8,
-}
-
-// Whether s is ten bytes with no bit past port 2 in the output port kind.
-pub fn is_formed(s: &[u8]) -> bool
-    ensures { λ r. ⌜ r ≡ formed (now (s .entry)) ⌝ }
-{
-    if s.len() != 10 {
-        return false;
-    }
-    s[6] < 8
-}
+ghost use Rattle.halfway.specs.Halfway.{Loaded, Halfway};
+use bytewise::PortBytes;
 
 // What the settings s say of port k.
 fn port(s: &[u8], k: u8) -> PortBytes
@@ -43,42 +24,12 @@ fn port(s: &[u8], k: u8) -> PortBytes
     }
 }
 
-// The configuration in the middle of the plan.
-fn mid_configuration(s: PortBytes, g: PortBytes) -> u8
-    ensures { λ r. ⌜ r ≡ tabulate 8 (λ j. midConfiguration (pinIn s j) (pinIn g j)) ⌝ }
-{
-    let change = (s.output ^ g.output)
-        | (s.configuration ^ g.configuration)
-        | (s.kind ^ g.kind)
-        | (s.flip ^ g.flip);
-    let free = s.configuration
-        | (s.output & (s.kind ^ s.flip))
-        | (g.configuration | (g.output & (g.kind ^ g.flip)));
-    (change & free) | (s.configuration ^ (s.configuration & change))
-}
-
-// The output in the middle of the plan.
-fn mid_output(s: PortBytes, g: PortBytes) -> u8
-    ensures { λ r. ⌜ r ≡ tabulate 8 (λ j. midOutput (pinIn s j) (pinIn g j)) ⌝ }
-{
-    s.output & (g.output | mid_configuration(s, g))
-}
-
-// The pins of the port that are stuck.
-fn stuck_in(s: PortBytes, g: PortBytes) -> u8
-    ensures { λ r. ⌜ r ≡ tabulate 8 (λ j. stuck (pinIn s j) (pinIn g j)) ⌝ }
-{
-    let high = s.output ^ (s.output & (s.configuration | (s.kind ^ s.flip)));
-    let again = g.output ^ (g.output & (g.configuration | (g.kind ^ g.flip)));
-    high & again & (s.kind ^ g.kind)
-}
-
 // The pins of port k that are stuck.
 pub fn port_stuck(start: &[u8], goal: &[u8], k: u8) -> u8
     requires { ⌜ (length (now start) ≡ 10) × (getD (now start) 6 0 < 8) × (length (now goal) ≡ 10) × (getD (now goal) 6 0 < 8) × (k < 3) ⌝ }
     ensures { λ r. ⌜ r ≡ tabulate 8 (λ j. stuck (bitsOf shape24 (now (start .entry)) k j) (bitsOf shape24 (now (goal .entry)) k j)) ⌝ }
 {
-    stuck_in(port(start, k), port(goal, k))
+    bytewise::stuck_in(port(start, k), port(goal, k))
 }
 
 // Whether a pin is stuck.
@@ -105,7 +56,7 @@ pub fn mid_port(start: &[u8], goal: &[u8], k: u8) -> Middle
     let s = port(start, k);
     let g = port(goal, k);
     Middle {
-        output: mid_output(s, g),
-        configuration: mid_configuration(s, g),
+        output: bytewise::mid_output(s, g),
+        configuration: bytewise::mid_configuration(s, g),
     }
 }

@@ -15,10 +15,10 @@ pub fn plan(start: &[u8], goal: &[u8], buf: &mut [u8]) -> Planned
     ensures exact { λ r. ⌜ Answers r (now (buf .entry)) (now (buf .exit)) (answerOf (now (start .entry)) (now (goal .entry)) (length (now (buf .entry)))) ⌝ }
     ensures promise { λ r. ⌜ Promise (now (start .entry)) (now (goal .entry)) (now (buf .entry)) (now (buf .exit)) r ⌝ }
 {
-    if !halfway::is_formed(start) {
+    if !formed::is_formed(start) {
         return Planned::Refused(5);
     }
-    if !halfway::is_formed(goal) {
+    if !formed::is_formed(goal) {
         return Planned::Refused(5);
     }
     if buf.len() < 32 {
@@ -35,8 +35,8 @@ pub fn stuck_pins(start: &[u8], goal: &[u8]) -> u64
     ensures { λ r. ⌜ r ≡ cond (formed (now (start .entry)) && formed (now (goal .entry)))
         (tabulate 24 (λ i. stuck (bitsOf shape24 (now (start .entry)) (i / 8) (i % 8)) (bitsOf shape24 (now (goal .entry)) (i / 8) (i % 8)))) 0 ⌝ }
 {
-    let formed = halfway::is_formed(start) & halfway::is_formed(goal);
-    if !formed {
+    let both = formed::is_formed(start) & formed::is_formed(goal);
+    if !both {
         return 0;
     }
     let a = halfway::port_stuck(start, goal, 0);

@@ -1,7 +1,7 @@
 use borrow.Author.Needs.{needs}
-use Rattle.halfway.proofs.Bytes.{output-set}
-use Rattle.halfway.proofs.mid_output.Statement.{statement}
-use Rattle.halfway.proofs.mid_output.Tie as tie
+use Rattle.bytewise.proofs.Bytes.{output-set}
+use Rattle.bytewise.proofs.mid_output.Statement.{statement}
+use Rattle.bytewise.proofs.mid_output.Tie as tie
 
 mid-configuration-requires : tie.Need-mid-configuration-requires
 mid-configuration-requires c κs = search needs

@@ -1,21 +1,16 @@
 -- What the code computes with whole bytes is what the rules say of each pin, at any width w. Assumes nothing.
-use mathlib.Core.Path.{_≡_, sym, ap}
-use mathlib.Core.Bool.{Bool, false, not, _&&_, _||_}
-use mathlib.Core.List.{List}
+use mathlib.Core.Path.{_≡_, ap}
+use mathlib.Core.Bool.{Bool, not, _&&_, _||_}
 use Prim.Native.Nat.{ℕ, _^_, _<_}
 use lib.Bits.{bitAnd, bitOr, bitXor}
-use borrow.Author.Tests.{eq-eqb, ne-eqb}
-use lib.Dec.{ltb}
-use lib.ListN.{length, getD}
 use Rattle.bits.specs.Bits.{bit, tabulate, differs, without}
 use Rattle.bits.proofs.Laws.{tabulated, pin-of, pinwise, below, bit-without}
 use Rattle.bits.proofs.Decide.{taut}
 use Rattle.pins.specs.Pin.{drive, isHigh, openDrain}
 use Rattle.quiet.specs.Order.{stuck}
 use Rattle.quiet.specs.Route.{midConfiguration, midOutput}
-use Rattle.promises.specs.Answer.{formed}
-use Rattle.halfway.specs.Halfway.{pinIn}
-use Rattle.halfway.specs.declared.PortBytes.{PortBytes}
+use Rattle.bytewise.specs.Bytes.{pinIn}
+use Rattle.bytewise.specs.declared.PortBytes.{PortBytes}
 use Rattle.quiet.proofs.Pin.{bits}
 
 -- ---- one pin
@@ -60,10 +55,3 @@ module _ (w : ℕ) (s g : PortBytes) where
 
   pub stuck-set : Small w s → bitAnd (bitAnd (high s) (high g)) (bitXor (s .kind) (g .kind)) ≡ tabulate w (λ j. stuck (pinIn s j) (pinIn g j))
   stuck-set ds = tabulated w (search below) (λ i k. simp (bit-without, pinwise) (stuck-one _ _ _ _ _ _ _ _))
-
--- ---- well-formed settings
-pub formed-not : (s : List ℕ) → (length s ≡ 10 → ⊥) → false ≡ formed s
-formed-not s h = ap (λ (b : Bool). b && ltb (getD s 6 0) 8) (sym (ne-eqb (length s) 10 h))
-
-pub formed-kinds : (s : List ℕ) → length s ≡ 10 → ltb (getD s 6 0) 8 ≡ formed s
-formed-kinds s h = ap (λ (b : Bool). b && ltb (getD s 6 0) 8) (sym (eq-eqb (length s) 10 h))

@@ -1,7 +1,7 @@
 use borrow.Author.Needs.{needs}
-use Rattle.halfway.proofs.Bytes.{configuration-set}
-use Rattle.halfway.proofs.mid_configuration.Statement.{statement}
-use Rattle.halfway.proofs.mid_configuration.Tie as tie
+use Rattle.bytewise.proofs.Bytes.{configuration-set}
+use Rattle.bytewise.proofs.mid_configuration.Statement.{statement}
+use Rattle.bytewise.proofs.mid_configuration.Tie as tie
 
 returns : tie.Need-returns
 returns c = configuration-set 8 _ _ (search needs) (search needs)

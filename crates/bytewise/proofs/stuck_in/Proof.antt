@@ -1,7 +1,7 @@
 use borrow.Author.Needs.{needs}
-use Rattle.halfway.proofs.Bytes.{stuck-set}
-use Rattle.halfway.proofs.stuck_in.Statement.{statement}
-use Rattle.halfway.proofs.stuck_in.Tie as tie
+use Rattle.bytewise.proofs.Bytes.{stuck-set}
+use Rattle.bytewise.proofs.stuck_in.Statement.{statement}
+use Rattle.bytewise.proofs.stuck_in.Tie as tie
 
 returns : tie.Need-returns
 returns c = stuck-set 8 _ _ (search needs)

@@ -1,8 +1,8 @@
 -- `is_formed`: the length, then the port kinds. Assumes nothing.
 use borrow.Author.Needs.{needs}
-use Rattle.halfway.proofs.Bytes.{formed-not, formed-kinds}
-use Rattle.halfway.proofs.is_formed.Statement.{statement}
-use Rattle.halfway.proofs.is_formed.Tie as tie
+use Rattle.formed.proofs.Formed.{formed-not, formed-kinds}
+use Rattle.formed.proofs.is_formed.Statement.{statement}
+use Rattle.formed.proofs.is_formed.Tie as tie
 
 returns : tie.Need-returns
 returns c = formed-not (c .before .args .s .now) (c .if1 .taken)
