@@ -19,10 +19,10 @@ use Rattle.device.specs.PowerOn.{powerOn, makingRefused}
 use Rattle.quiet.specs.Settings.{shape24, Write}
 use Rattle.quiet.specs.Order.{blocked}
 use Rattle.quiet.specs.Route.{planOf}
-use Rattle.planner.specs.Answer.{formed, answerOf, Answers}
-use Rattle.planner.specs.Answer.Answer.{refuse, give}
-use Rattle.planner.specs.Promise.{Promise}
-use Rattle.planner.specs.declared.Planned.{Planned}
+use Rattle.promises.specs.Answer.{formed, answerOf, Answers}
+use Rattle.promises.specs.Answer.Answer.{refuse, give}
+use Rattle.promises.specs.Promise.{Promise}
+use Rattle.promises.specs.declared.Planned.{Planned}
 use Rattle.host.specs.Arrays.{Told, Made, Seen, Shown, intOf, planNumber, writesAfter, plannedAs}
 
 -- the outcome of a step, told in numbers

@@ -13,7 +13,7 @@ use Rattle.bus.specs.Answers.{answerKind, answerByte, refusalNumber}
 use Rattle.bus.specs.declared.Rest.{Rest}
 use Rattle.device.specs.Refusals.{imageFits}
 use Rattle.device.specs.PowerOn.{powerOn, makingRefused}
-use Rattle.planner.specs.declared.Planned.{Planned}
+use Rattle.promises.specs.declared.Planned.{Planned}
 
 -- the pin sets in the order level, reference, held, edge; then pointer, bus state, address choice
 abbrev pub restIn : (pins bus : List ℕ) → Rest

@@ -7,14 +7,14 @@ ghost use lib.ListN.{length};
 ghost use Rattle.bus.specs.Answers.{answerKind, answerByte, refusalNumber};
 ghost use Rattle.map.specs.Map.{part24};
 ghost use Rattle.device.specs.Refusals.{stepped};
-ghost use Rattle.planner.specs.Answer.{answerOf, Answers};
-ghost use Rattle.planner.specs.Promise.{Promise};
+ghost use Rattle.promises.specs.Answer.{answerOf, Answers};
+ghost use Rattle.promises.specs.Promise.{Promise};
 ghost use Rattle.host.specs.Arrays.{restIn, imageIn, Told, Made, Seen, Shown, drivesOf, intOf, planNumber, writesAfter, plannedAs};
 use bus::Answer;
 use bus::Rest;
 use device::Device;
 use pins::Sets;
-use planner::Planned;
+use promises::Planned;
 
 // The state beside the register file, out of its arrays.
 fn rest_in(pins: &[u64; 4], line: &[u8; 3]) -> Rest

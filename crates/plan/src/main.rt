@@ -2,7 +2,7 @@
 use asks::Reading;
 use libc::STDERR_FILENO;
 use libc::STDOUT_FILENO;
-use planner::Planned;
+use promises::Planned;
 
 // A tab and a write's register and value.
 fn say_write(register: u8, value: u8) {

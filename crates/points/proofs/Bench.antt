@@ -10,7 +10,7 @@ use Rattle.bus.specs.Device.{resetted, byteIn, fetchIn, step}
 use Rattle.device.specs.Refusals.{setsFit, imageFits, refusal, stepped}
 use Rattle.device.specs.PowerOn.{powerOn}
 use Rattle.quiet.specs.Route.{midConfiguration, midOutput, planOf}
-use Rattle.planner.specs.Answer.{answerOf}
+use Rattle.promises.specs.Answer.{answerOf}
 use Rattle.points.specs.Bench.{cases, all}
 
 pub all-cases : T (all cases)

@@ -14,8 +14,8 @@ use Rattle.bus.specs.declared.Answer.the-variants.{Nothing}
 use Rattle.device.specs.PowerOn.{powerOn}
 use Rattle.demands.specs.Run.{Asked}
 use Rattle.quiet.specs.Settings.{Settings}
-use Rattle.planner.specs.Answer.{Answer, answerOf}
-use Rattle.planner.specs.Answer.Answer.{refuse, give}
+use Rattle.promises.specs.Answer.{Answer, answerOf}
+use Rattle.promises.specs.Answer.Answer.{refuse, give}
 use Rattle.demands.specs.Transactions.{ask, START, STOP, sent, toWrite, writeOver, readOver, readOn}
 
 pub data Case : Type 0 where

@@ -2,9 +2,9 @@
 use borrow.Author.Needs.{needs}
 use mathlib.Core.Path.{sym, _∙_}
 use native.Mathlib.Omega.{arith}
-use Rattle.planner.specs.declared.Planned.{Planned}
-use Rattle.planner.proofs.Promising.{promised}
-use Rattle.planner.proofs.Answering.{fails, holds, whole, kinds, bad-start, bad-goal, no-room, no-way, planned}
+use Rattle.promises.specs.declared.Planned.{Planned}
+use Rattle.promises.proofs.Promising.{promised}
+use Rattle.promises.proofs.Answering.{fails, holds, whole, kinds, bad-start, bad-goal, no-room, no-way, planned}
 use Rattle.planner.proofs.plan.Statement.{statement}
 use Rattle.planner.proofs.plan.Tie as tie
 

@@ -1,6 +1,0 @@
-pub mod Bytes
-pub mod Ports
-pub mod Laying
-pub mod Sixteen
-pub mod Answering
-pub mod Promising

@@ -1,0 +1,36 @@
+-- What the planner answers.
+use mathlib.Core.Bool.{Bool, cond, _&&_}
+use mathlib.Core.List.{List, _++_}
+use mathlib.Core.Path.{_≡_}
+use Prim.Native.Nat.{ℕ, _*_}
+use lib.Dec.{eqb, ltb}
+use lib.ListN.{getD, length, drop}
+use Rattle.quiet.specs.Settings.{shape24, Settings, Write}
+use Rattle.quiet.specs.Order.{blocked}
+use Rattle.quiet.specs.Route.{planOf, bytesOf}
+use Rattle.promises.specs.declared.Planned.{Planned}
+
+-- ten bytes, and no bit past port 2 in the port kinds
+abbrev pub formed : Settings → Bool
+formed s = eqb (length s) 10 && ltb (getD s 6 0) 8
+
+pub data Answer : Type 0 where
+  refuse : ℕ → Answer
+  give : List Write → Answer
+
+-- the answer for a start, a goal and a buffer of so many bytes: 5, then 6, then 4, else the plan
+unfoldable pub answerOf : (start goal : Settings) → (room : ℕ) → Answer
+answerOf start goal room =
+    cond (formed start && formed goal)
+    (cond (ltb room 32) (refuse 6) (cond (blocked shape24 start goal) (refuse 4) (give (planOf shape24 start goal))))
+    (refuse 5)
+
+-- the function's result r, and the buffer before and after, are that answer
+abbrev pub Answers : Planned → (before after : List ℕ) → Answer → Type 0
+Answers r before after (refuse c) = (r ≡ Planned.Refused c) × (after ≡ before)
+Answers r before after (give ws) = (r ≡ Planned.Writes (length ws)) × (after ≡ bytesOf ws ++ drop (2 * length ws) before)
+
+-- the plan stands at the front of the buffer: n writes
+pub record Planted (start goal : Settings) (n : ℕ) (before after : List ℕ) : Type 0 where
+  pub count : n ≡ length (planOf shape24 start goal)
+  pub bytes : after ≡ bytesOf (planOf shape24 start goal) ++ drop (2 * length (planOf shape24 start goal)) before
