@@ -1,5 +1,5 @@
 use borrow.Author.Needs.{needs}
-use Rattle.host.proofs.Laws.{image-test, seen, unseen}
+use Rattle.arrays.proofs.Laws.{image-test, seen, unseen}
 use Rattle.host.proofs.ghixramel_arrays_drives.Statement.{statement}
 use Rattle.host.proofs.ghixramel_arrays_drives.Tie as tie
 

@@ -6,7 +6,7 @@ use native.Mathlib.Omega.{arith}
 use Rattle.map.specs.Map.{part24}
 use Rattle.device.specs.PowerOn.{powerOn, makingRefused}
 use Rattle.bus.specs.Held.{stateOf}
-use Rattle.host.proofs.Laws.{made, not-made, choice-over, only-two}
+use Rattle.arrays.proofs.Laws.{made, not-made, choice-over, only-two}
 use Rattle.host.proofs.ghixramel_arrays_power_on.Statement.{statement}
 use Rattle.host.proofs.ghixramel_arrays_power_on.Tie as tie
 

@@ -4,7 +4,7 @@ use Prim.Native.Nat.{_%_}
 use borrow.Author.Tests.{not-true, not-false}
 use native.Mathlib.Nat.{mod-eq-of-lt}
 use native.Mathlib.Omega.{arith}
-use Rattle.host.proofs.Laws.{image-test, shown-here, not-shown, no-register, above}
+use Rattle.arrays.proofs.Laws.{image-test, shown-here, not-shown, no-register, above}
 use Rattle.host.proofs.ghixramel_arrays_show.Statement.{statement}
 use Rattle.host.proofs.ghixramel_arrays_show.Tie as tie
 

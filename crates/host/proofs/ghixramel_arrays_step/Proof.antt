@@ -4,7 +4,7 @@ use Rattle.map.specs.Map.{part24}
 use Rattle.bus.specs.Held.{stateOf}
 use Rattle.bus.specs.declared.Rest.{Rest}
 use Rattle.device.specs.Refusals.{stepped}
-use Rattle.host.proofs.Laws.{told-of}
+use Rattle.arrays.proofs.Laws.{told-of}
 use Rattle.host.proofs.ghixramel_arrays_step.Statement.{statement}
 use Rattle.host.proofs.ghixramel_arrays_step.Tie as tie
 

@@ -23,7 +23,7 @@ use Rattle.planner.specs.Answer.{formed, answerOf, Answers}
 use Rattle.planner.specs.Answer.Answer.{refuse, give}
 use Rattle.planner.specs.Promise.{Promise}
 use Rattle.planner.specs.declared.Planned.{Planned}
-use Rattle.host.specs.Arrays.{Told, Made, Seen, Shown, intOf, planNumber, writesAfter, plannedAs}
+use Rattle.arrays.specs.Arrays.{Told, Made, Seen, Shown, intOf, planNumber, writesAfter, plannedAs}
 
 -- the outcome of a step, told in numbers
 pub told-of : (q : Outcome) (a : Answer) (s after : State) (n : ℕ) (before told : List ℕ) → out a s ≡ q → after ≡ s → n ≡ refusalNumber a
