@@ -43,6 +43,9 @@ int-told file n t e =
     ap (λ (n : ℕ). n ∷ []) n
     ∙ ap (λ (t : Bool). cond {A = ℕ} t 1 0 ∷ []) (t ∙ ap (λ (r : Rest). intAsserted part24 (core file (r .sets))) e)
 
+pub both-told : {l m h k : ℕ} → l ≡ m → h ≡ k → l ∷ h ∷ [] ≡ m ∷ k ∷ []
+both-told = ap₂ (λ (l h : ℕ). l ∷ h ∷ [])
+
 -- a device that is made, or not
 pub made : (choice levels : ℕ) (before after : State) → makingRefused part24 choice levels ≡ 0 → after ≡ powerOn part24 choice levels → Made choice levels 0 before after
 made choice levels before after e q = record { refused = sym e; image = q ∙ simp e }
@@ -75,6 +78,15 @@ not-shown s n lent e = (simp e, simp e)
 
 pub no-register : (s : State) (n : ℕ) (lent : List ℕ) → imageFits part24 s ≡ true → reserved part24 n ≡ true → Shown s n 2 lent lent
 no-register s n lent e r = (simp (e, r), simp (e, r))
+
+-- the test of the register's number, made on what is left of it as a byte
+pub register-test : {m n : ℕ} {t b : Bool} → m ≡ n → t ≡ reserved part24 m → t ≡ b → reserved part24 n ≡ b
+register-test e i h = ap (reserved part24) (sym e) ∙ sym i ∙ h
+
+pub byte-told : (file : List ℕ) {r q : Rest} {m n b : ℕ} → b ≡ shown part24 (core file (r .sets)) m → r ≡ q → m ≡ n → b ∷ [] ≡ shown part24 (stateOf file q .regs) n ∷ []
+byte-told file b e n =
+    ap (λ (b : ℕ). b ∷ []) b
+    ∙ ap₂ (λ (r : Rest) (n : ℕ). shown part24 (core file (r .sets)) n ∷ []) e n
 
 pub above : (n : ℕ) → 127 < n → reserved part24 n ≡ true
 unfolding reserved

@@ -78,7 +78,9 @@ pub extern "C" fn ghixramel_arrays_drives(
 {
     let rest = arrays::rest_in(pins, line);
     if device::image_fits(file, rest) {
-        *drives = [views::low(file), views::high(file)];
+        let low = views::low(file);
+        let high = views::high(file);
+        *drives = [low, high];
         return 0;
     }
     3
