@@ -2,12 +2,12 @@
 use mathlib.Core.Path.{_≡_, refl, sym, ap, ap₂, subst, _∙_}
 use mathlib.Core.Bool.{Bool, true, false, cond, _&&_}
 use mathlib.Core.List.{List, [], _∷_}
-use Prim.Native.Nat.{ℕ, _^_, _<_}
-use borrow.Author.Tests.{le-ltb, lt-leb}
+use Prim.Native.Nat.{ℕ, _^_, _<_, _≤_}
+use borrow.Author.Tests.{lt-ltb, le-ltb, le-leb, lt-leb}
 use lib.Dec.{eqb, leb, ltb}
 use lib.ListN.{length}
 use Rattle.bits.proofs.Decide.{clash}
-use Rattle.map.specs.Map.{part24, reserved}
+use Rattle.map.specs.Map.{part24, reserved, defaults}
 use Rattle.registers.specs.Registers.{core, intAsserted, shown}
 use Rattle.bus.specs.Device.{State, Outcome, out}
 use Rattle.bus.specs.Held.{stateOf}
@@ -23,7 +23,7 @@ use Rattle.planner.specs.Answer.{formed, answerOf, Answers}
 use Rattle.planner.specs.Answer.Answer.{refuse, give}
 use Rattle.planner.specs.Promise.{Promise}
 use Rattle.planner.specs.declared.Planned.{Planned}
-use Rattle.arrays.specs.Arrays.{Told, Made, Seen, Shown, intOf, planNumber, writesAfter, plannedAs}
+use Rattle.arrays.specs.Arrays.{imageIn, Told, Made, Seen, Shown, intOf, planNumber, writesAfter, plannedAs}
 
 -- the outcome of a step, told in numbers
 pub told-of : (q : Outcome) (a : Answer) (s after : State) (n : ℕ) (before told : List ℕ) → out a s ≡ q → after ≡ s → n ≡ refusalNumber a
@@ -56,13 +56,20 @@ not-made choice levels before e = record { refused = sym e; image = simp e }
 pub choice-over : (choice levels : ℕ) → 3 < choice → makingRefused part24 choice levels ≡ 2
 choice-over choice levels h = simp (lt-leb choice 3 h)
 
--- a refusal of the inner function has but one number
-pub only-two : (choice levels n : ℕ) → n ≡ makingRefused part24 choice levels → (n ≡ 0 → ⊥) → makingRefused part24 choice levels ≡ 2
-only-two choice levels n e h = go (leb choice 3 && ltb levels (2 ^ 24)) (λ z. h (e ∙ z))
+pub levels-over : (choice levels : ℕ) → 0xffffff < levels → makingRefused part24 choice levels ≡ 2
+levels-over choice levels h = ap (λ (b : Bool). cond {A = ℕ} (leb choice 3 && b) 0 2) (le-ltb levels (2 ^ 24) h) ∙ go (leb choice 3)
   where
-    go : (b : Bool) → (_≡_ {A = ℕ} (cond b 0 2) 0 → ⊥) → _≡_ {A = ℕ} (cond b 0 2) 2
-    go true h = absurd (h refl)
-    go false h = refl
+    go : (b : Bool) → _≡_ {A = ℕ} (cond (b && false) 0 2) 2
+    go true = refl
+    go false = refl
+
+pub not-over : (choice levels : ℕ) → choice ≤ 3 → levels < 2 ^ 24 → makingRefused part24 choice levels ≡ 0
+not-over choice levels h k = simp (le-leb choice 3 h, lt-ltb levels (2 ^ 24) k)
+
+pub powered-on : (choice levels : ℕ) {file : List ℕ} {n : ℕ} → file ≡ defaults part24 → n ≡ choice
+    → imageIn (levels ∷ levels ∷ 0 ∷ 0 ∷ []) file (0 ∷ 0 ∷ n ∷ []) ≡ powerOn part24 choice levels
+unfolding powerOn
+powered-on choice levels e n = ap₂ (λ (file : List ℕ) (n : ℕ). imageIn (levels ∷ levels ∷ 0 ∷ 0 ∷ []) file (0 ∷ 0 ∷ n ∷ [])) e n
 
 pub seen : (s : State) (value lent after : List ℕ) → imageFits part24 s ≡ true → after ≡ value → Seen s value 0 lent after
 seen s value lent after e q = (simp e, q ∙ simp e)

@@ -8,7 +8,6 @@ ghost use Rattle.device.specs.Refusals.{stepped};
 ghost use Rattle.planner.specs.Answer.{answerOf, Answers};
 ghost use Rattle.planner.specs.Promise.{Promise};
 ghost use Rattle.arrays.specs.Arrays.{imageIn, Told, Made, Seen, Shown, drivesOf, intOf, plannedAs};
-use bus::Rest;
 use device::Device;
 
 // One event.
@@ -27,8 +26,7 @@ pub extern "C" fn ghixramel_arrays_step(
     let rest = arrays::rest_in(&*pins, &*line);
     let o = device::step(file, rest, kind, argument);
     let answer = o.answer;
-    let after = o.rest;
-    arrays::keep(after, pins, line);
+    arrays::keep(o.rest, pins, line);
     arrays::tell(answer, told)
 }
 
@@ -47,21 +45,12 @@ pub extern "C" fn ghixramel_arrays_power_on(
     if 3 < choice {
         return 2;
     }
-    let made = Device::power_on((choice % 4) as u8, levels);
-    if made.refusal != 0 {
+    if 0xff_ffff < levels {
         return 2;
     }
-    let device = made.device;
-    let sets = device.sets;
-    let fresh = device.file;
-    *file = fresh;
-    let rest = Rest {
-        sets,
-        pointer: device.pointer,
-        bus: device.bus,
-        choice: device.choice,
-    };
-    arrays::keep(rest, pins, line);
+    *file = Device::reset_values();
+    *pins = [levels, levels, 0, 0];
+    *line = [0, 0, (choice % 4) as u8];
     0
 }
 
