@@ -6,10 +6,14 @@ use Rattle.host.proofs.ghixramel_arrays_power_on.Statement.{statement}
 use Rattle.host.proofs.ghixramel_arrays_power_on.Tie as tie
 
 returns : tie.Need-returns
-returns c = not-made _ _ _ (choice-over _ (c .before .args .levels) (c .if1 .taken))
+returns c =
+    let x = c .before .args in
+    not-made _ _ _ (choice-over (x .choice) (x .levels) (omega (arith, c .if1 .taken)))
 
 returns-2 : tie.Need-returns-2
-returns-2 c = not-made _ _ _ (levels-over (c .before .before .args .choice) _ (c .if2 .taken))
+returns-2 c =
+    let x = c .before .before .args in
+    not-made _ _ _ (levels-over (x .choice) (x .levels) (omega (arith, c .if2 .taken)))
 
 reset-values-requires : tie.Need-reset-values-requires
 reset-values-requires c κs = search needs

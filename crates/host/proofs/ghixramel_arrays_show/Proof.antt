@@ -22,7 +22,7 @@ returns c =
 returns-2 : tie.Need-returns-2
 returns-2 c =
     let fits = c .before .before in
-    no-register _ _ _ (image-test _ (fits .before .rest-in .ensures) (fits .image-fits .ensures) (not-false _ (c .before .if1 .left))) (above _ (c .if2 .taken))
+    no-register _ _ _ (image-test _ (fits .before .rest-in .ensures) (fits .image-fits .ensures) (not-false _ (c .before .if1 .left))) (above (fits .before .before .args .number) (omega (arith, c .if2 .taken)))
 
 cast-n : tie.Need-cast-n
 cast-n c = search needs
