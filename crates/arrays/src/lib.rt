@@ -62,6 +62,7 @@ pub fn tell(answer: Answer, told: &mut [u8; 2]) -> u32
     0
 }
 
+// A test as C has it.
 pub fn one_if(t: bool) -> u8
     ensures { λ r. ⌜ r ≡ cond t 1 0 ⌝ }
 {

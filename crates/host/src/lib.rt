@@ -8,7 +8,6 @@ ghost use Rattle.device.specs.Refusals.{stepped};
 ghost use Rattle.planner.specs.Answer.{answerOf, Answers};
 ghost use Rattle.planner.specs.Promise.{Promise};
 ghost use Rattle.arrays.specs.Arrays.{imageIn, Told, Made, Seen, Shown, drivesOf, intOf, plannedAs};
-use device::Device;
 
 // One event.
 #[no_mangle]
@@ -48,7 +47,7 @@ pub extern "C" fn ghixramel_arrays_power_on(
     if 0xff_ffff < levels {
         return 2;
     }
-    *file = Device::reset_values();
+    *file = map::default_file();
     *pins = [levels, levels, 0, 0];
     *line = [0, 0, (choice % 4) as u8];
     0

@@ -15,8 +15,8 @@ returns-2 c =
     let x = c .before .before .args in
     not-made _ _ _ (levels-over (x .choice) (x .levels) (omega (arith, c .if2 .taken)))
 
-reset-values-requires : tie.Need-reset-values-requires
-reset-values-requires c κs = search needs
+default-file-requires : tie.Need-default-file-requires
+default-file-requires c κs = search needs
 
 cast-t9 : tie.Need-cast-t9
 cast-t9 c = search needs
@@ -27,7 +27,7 @@ returns-3 c =
     let small = tested .before .if1 .left in
     let x = tested .before .before .args in
     made _ _ _ _ (not-over (x .choice) (x .levels) (omega (arith, small)) (omega (arith, tested .if2 .left)))
-    (powered-on _ _ (c .before .before .reset-values .ensures) (mod-eq-of-lt (omega (arith, small))))
+    (powered-on _ _ (c .before .before .default-file .ensures) (mod-eq-of-lt (omega (arith, small))))
 
 pub ghixramel-arrays-power-on-spec : {M : Type 1} → statement M
-ghixramel-arrays-power-on-spec = tie.close (tie.spec returns returns-2 reset-values-requires cast-t9 returns-3)
+ghixramel-arrays-power-on-spec = tie.close (tie.spec returns returns-2 default-file-requires cast-t9 returns-3)
