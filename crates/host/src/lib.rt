@@ -1,72 +1,13 @@
 // The C boundary: the state as three arrays of plain numbers that the caller owns, answers and refusals as numbers.
 ghost use mathlib.Core.Path.{_≡_};
-ghost use mathlib.Core.Bool.{false, cond};
-ghost use mathlib.Core.List.{[], _∷_};
+ghost use mathlib.Core.Bool.{false};
 ghost use lib.Dec.{eqb};
 ghost use lib.ListN.{length};
-ghost use Rattle.bus.specs.Answers.{answerKind, answerByte, refusalNumber};
 ghost use Rattle.map.specs.Map.{part24};
 ghost use Rattle.device.specs.Refusals.{stepped};
 ghost use Rattle.promises.specs.Answer.{answerOf, Answers};
 ghost use Rattle.promises.specs.Promise.{Promise};
-ghost use Rattle.host.specs.Arrays.{restIn, imageIn, Told, Made, Seen, Shown, drivesOf, intOf, planNumber, writesAfter, plannedAs};
-use bus::Answer;
-use bus::Rest;
-use device::Device;
-use pins::Sets;
-use promises::Planned;
-
-// The state beside the register file, out of its arrays.
-fn rest_in(pins: &[u64; 4], line: &[u8; 3]) -> Rest
-    ensures { λ r. ⌜ r ≡ restIn (now (pins .entry)) (now (line .entry)) ⌝ }
-{
-    let sets = Sets {
-        level: pins[0],
-        reference: pins[1],
-        held: pins[2],
-        edge: pins[3],
-    };
-    Rest {
-        sets,
-        pointer: line[0],
-        bus: line[1],
-        choice: line[2],
-    }
-}
-
-// And back into them.
-fn keep(r: Rest, pins: &mut [u64; 4], line: &mut [u8; 3])
-    ensures { λ u. ⌜ restIn (now (pins .exit)) (now (line .exit)) ≡ r ⌝ }
-{
-    let sets = r.sets;
-    *pins = [sets.level, sets.reference, sets.held, sets.edge];
-    *line = [r.pointer, r.bus, r.choice];
-}
-
-// An answer as its kind and its byte; a refusal as its number alone.
-fn tell(answer: Answer, told: &mut [u8; 2]) -> u32
-    ensures { λ r. ⌜ (r ≡ refusalNumber answer)
-        × (now (told .exit) ≡ cond (eqb (answerKind answer) 4) (now (told .entry)) (answerKind answer ∷ answerByte answer ∷ [])) ⌝ }
-{
-    match answer {
-        Answer::Nothing => {
-            *told = [0, 0];
-        }
-        Answer::Ack => {
-            *told = [1, 0];
-        }
-        Answer::Nak => {
-            *told = [2, 0];
-        }
-        Answer::Byte(b) => {
-            *told = [3, b];
-        }
-        Answer::Refused(n) => {
-            return n as u32;
-        }
-    }
-    0
-}
+ghost use Rattle.arrays.specs.Arrays.{imageIn, Told, Made, Seen, Shown, drivesOf, intOf, plannedAs};
 
 // One event.
 #[no_mangle]
@@ -81,12 +22,11 @@ pub extern "C" fn ghixramel_arrays_step(
     ensures { λ r. ⌜ Told (stepped part24 (imageIn (now (pins .entry)) (now (file .entry)) (now (line .entry))) kind argument)
         r (imageIn (now (pins .exit)) (now (file .exit)) (now (line .exit))) (now (told .entry)) (now (told .exit)) ⌝ }
 {
-    let rest = rest_in(&*pins, &*line);
+    let rest = arrays::rest_in(&*pins, &*line);
     let o = device::step(file, rest, kind, argument);
     let answer = o.answer;
-    let after = o.rest;
-    keep(after, pins, line);
-    tell(answer, told)
+    arrays::keep(o.rest, pins, line);
+    arrays::tell(answer, told)
 }
 
 // A device at power-on.
@@ -104,21 +44,12 @@ pub extern "C" fn ghixramel_arrays_power_on(
     if 3 < choice {
         return 2;
     }
-    let made = Device::power_on((choice % 4) as u8, levels);
-    if made.refusal != 0 {
+    if 0xff_ffff < levels {
         return 2;
     }
-    let device = made.device;
-    let sets = device.sets;
-    let fresh = device.file;
-    *file = fresh;
-    let rest = Rest {
-        sets,
-        pointer: device.pointer,
-        bus: device.bus,
-        choice: device.choice,
-    };
-    keep(rest, pins, line);
+    *file = files::default_file();
+    *pins = [levels, levels, 0, 0];
+    *line = [0, 0, (choice % 4) as u8];
     0
 }
 
@@ -133,21 +64,14 @@ pub extern "C" fn ghixramel_arrays_drives(
     ensures { λ r. ⌜ Seen (imageIn (now (pins .entry)) (now (file .entry)) (now (line .entry)))
         (drivesOf (imageIn (now (pins .entry)) (now (file .entry)) (now (line .entry)))) r (now (drives .entry)) (now (drives .exit)) ⌝ }
 {
-    let rest = rest_in(pins, line);
+    let rest = arrays::rest_in(pins, line);
     if device::image_fits(file, rest) {
-        *drives = [views::low(file), views::high(file)];
+        let low = views::low(file);
+        let high = views::high(file);
+        *drives = [low, high];
         return 0;
     }
     3
-}
-
-fn one_if(t: bool) -> u8
-    ensures { λ r. ⌜ r ≡ cond t 1 0 ⌝ }
-{
-    if t {
-        return 1;
-    }
-    0
 }
 
 // Whether INT is asserted.
@@ -161,9 +85,9 @@ pub extern "C" fn ghixramel_arrays_int(
     ensures { λ r. ⌜ Seen (imageIn (now (pins .entry)) (now (file .entry)) (now (line .entry)))
         (intOf (imageIn (now (pins .entry)) (now (file .entry)) (now (line .entry)))) r (now (asserted .entry)) (now (asserted .exit)) ⌝ }
 {
-    let rest = rest_in(pins, line);
+    let rest = arrays::rest_in(pins, line);
     if device::image_fits(file, rest) {
-        *asserted = [one_if(views::int(file, rest.sets))];
+        *asserted = [arrays::one_if(views::int(file, rest.sets))];
         return 0;
     }
     3
@@ -180,7 +104,7 @@ pub extern "C" fn ghixramel_arrays_show(
 ) -> u32
     ensures { λ r. ⌜ Shown (imageIn (now (pins .entry)) (now (file .entry)) (now (line .entry))) number r (now (byte .entry)) (now (byte .exit)) ⌝ }
 {
-    let rest = rest_in(pins, line);
+    let rest = arrays::rest_in(pins, line);
     if !device::image_fits(file, rest) {
         return 3;
     }
@@ -193,19 +117,6 @@ pub extern "C" fn ghixramel_arrays_show(
     }
     *byte = [fetches::show(file, rest.sets, n)];
     0
-}
-
-// The planner's answer as numbers: the refusal's is given back, the number of writes stored.
-fn tell_plan(planned: Planned, writes: &mut [u64; 1]) -> u32
-    ensures { λ r. ⌜ (r ≡ planNumber planned) × (now (writes .exit) ≡ writesAfter planned (now (writes .entry))) ⌝ }
-{
-    match planned {
-        Planned::Writes(n) => {
-            *writes = [n as u64];
-            0
-        }
-        Planned::Refused(n) => n as u32,
-    }
 }
 
 // The plan from the start to the goal, at the start of the buffer.
@@ -222,5 +133,5 @@ pub extern "C" fn ghixramel_plan(
     ensures refused { λ r. ⌜ (eqb r 0 ≡ false → now (writes .exit) ≡ now (writes .entry)) ⌝ }
 {
     let planned = planner::plan(start, goal, buffer);
-    tell_plan(planned, writes)
+    arrays::tell_plan(planned, writes)
 }

@@ -1,5 +1,5 @@
 use borrow.Author.Needs.{needs}
-use Rattle.host.proofs.Laws.{image-test, seen, unseen}
+use Rattle.arrays.proofs.Laws.{image-test, both-told, seen, unseen}
 use Rattle.host.proofs.ghixramel_arrays_drives.Statement.{statement}
 use Rattle.host.proofs.ghixramel_arrays_drives.Tie as tie
 
@@ -19,7 +19,7 @@ returns : tie.Need-returns
 returns c =
     let fits = c .before .before .before .before in
     seen _ _ _ _ (image-test _ (fits .before .rest-in .ensures) (fits .image-fits .ensures) (c .before .before .before .if1 .taken))
-    (cc (c .before .high .ensures _, c .before .before .low .ensures _))
+    (both-told (c .before .before .low .ensures _) (c .before .high .ensures _))
 
 returns-2 : tie.Need-returns-2
 returns-2 c =

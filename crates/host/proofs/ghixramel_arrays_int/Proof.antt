@@ -1,5 +1,5 @@
 use borrow.Author.Needs.{needs}
-use Rattle.host.proofs.Laws.{image-test, int-told, seen, unseen}
+use Rattle.arrays.proofs.Laws.{image-test, int-told, seen, unseen}
 use Rattle.host.proofs.ghixramel_arrays_int.Statement.{statement}
 use Rattle.host.proofs.ghixramel_arrays_int.Tie as tie
 

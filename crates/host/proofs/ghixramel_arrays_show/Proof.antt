@@ -4,7 +4,7 @@ use Prim.Native.Nat.{_%_}
 use borrow.Author.Tests.{not-true, not-false}
 use native.Mathlib.Nat.{mod-eq-of-lt}
 use native.Mathlib.Omega.{arith}
-use Rattle.host.proofs.Laws.{image-test, shown-here, not-shown, no-register, above}
+use Rattle.arrays.proofs.Laws.{image-test, shown-here, not-shown, no-register, register-test, byte-told, above}
 use Rattle.host.proofs.ghixramel_arrays_show.Statement.{statement}
 use Rattle.host.proofs.ghixramel_arrays_show.Tie as tie
 
@@ -22,7 +22,7 @@ returns c =
 returns-2 : tie.Need-returns-2
 returns-2 c =
     let fits = c .before .before in
-    no-register _ _ _ (image-test _ (fits .before .rest-in .ensures) (fits .image-fits .ensures) (not-false _ (c .before .if1 .left))) (above _ (c .if2 .taken))
+    no-register _ _ _ (image-test _ (fits .before .rest-in .ensures) (fits .image-fits .ensures) (not-false _ (c .before .if1 .left))) (above (fits .before .before .args .number) (omega (arith, c .if2 .taken)))
 
 cast-n : tie.Need-cast-n
 cast-n c = search needs
@@ -35,7 +35,7 @@ returns-3 c =
     let fits = c .before .before .before .before in
     let x = fits .before .before .args in
     let n : x .number % 128 ≡ x .number = mod-eq-of-lt (omega (arith, c .before .before .if2 .left)) in
-    no-register _ _ _ (image-test _ (fits .before .rest-in .ensures) (fits .image-fits .ensures) (not-false _ (c .before .before .before .if1 .left))) (cc (n, c .before .is-reserved .ensures, c .if3 .taken))
+    no-register _ _ _ (image-test _ (fits .before .rest-in .ensures) (fits .image-fits .ensures) (not-false _ (c .before .before .before .if1 .left))) (register-test n (c .before .is-reserved .ensures) (c .if3 .taken))
 
 show-requires : tie.Need-show-requires
 show-requires c κs = search needs
@@ -46,7 +46,7 @@ returns-4 c =
     let x = fits .before .before .args in
     let n : x .number % 128 ≡ x .number = mod-eq-of-lt (omega (arith, c .before .before .before .before .if2 .left)) in
     shown-here _ _ _ _ (image-test _ (fits .before .rest-in .ensures) (fits .image-fits .ensures) (not-false _ (c .before .before .before .before .before .if1 .left)))
-    (cc (n, c .before .before .before .is-reserved .ensures, c .before .before .if3 .left)) (cc (n, c .before .show .ensures, fits .before .rest-in .ensures))
+    (register-test n (c .before .before .before .is-reserved .ensures) (c .before .before .if3 .left)) (byte-told _ (c .before .show .ensures) (fits .before .rest-in .ensures) n)
 
 pub ghixramel-arrays-show-spec : {M : Type 1} → statement M
 ghixramel-arrays-show-spec = tie.close (tie.spec rest-in-requires image-fits-requires returns returns-2 cast-n is-reserved-requires returns-3 show-requires returns-4)

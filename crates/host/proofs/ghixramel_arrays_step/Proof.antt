@@ -4,7 +4,7 @@ use Rattle.map.specs.Map.{part24}
 use Rattle.bus.specs.Held.{stateOf}
 use Rattle.bus.specs.declared.Rest.{Rest}
 use Rattle.device.specs.Refusals.{stepped}
-use Rattle.host.proofs.Laws.{told-of}
+use Rattle.arrays.proofs.Laws.{told-of}
 use Rattle.host.proofs.ghixramel_arrays_step.Statement.{statement}
 use Rattle.host.proofs.ghixramel_arrays_step.Tie as tie
 
@@ -22,11 +22,12 @@ tell-requires c κs = search needs
 
 returns : tie.Need-returns
 returns c =
-    let start = c .before .before .before .before .before .before .before .before .before .before .before in
-    let x = start .args in
-    told-of _ _ _ _ _ _ _
-    (c .before .before .before .before .before .before .step .ensures ∙ ap (λ (r : Rest). stepped part24 (stateOf (x .file .now) r) (x .kind) (x .argument)) (c .before .before .before .before .before .before .before .before .rest-in .ensures))
-    (ap (stateOf _) (c .before .before .keep .ensures)) (c .tell .ensures .0) (c .tell .ensures .1)
+    let kept = c .before .before in
+    let o = kept .before .before .before in
+    let read = o .before .before in
+    let x = read .before .before .before .args in
+    told-of _ _ _ _ _ _ _ (o .step .ensures ∙ ap (λ (r : Rest). stepped part24 (stateOf (x .file .now) r) (x .kind) (x .argument)) (read .rest-in .ensures))
+    (ap (stateOf _) (kept .keep .ensures)) (c .tell .ensures .0) (c .tell .ensures .1)
 
 pub ghixramel-arrays-step-spec : {M : Type 1} → statement M
 ghixramel-arrays-step-spec = tie.close (tie.spec rest-in-requires step-requires keep-requires tell-requires returns)

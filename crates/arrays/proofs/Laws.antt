@@ -2,12 +2,12 @@
 use mathlib.Core.Path.{_≡_, refl, sym, ap, ap₂, subst, _∙_}
 use mathlib.Core.Bool.{Bool, true, false, cond, _&&_}
 use mathlib.Core.List.{List, [], _∷_}
-use Prim.Native.Nat.{ℕ, _^_, _<_}
-use borrow.Author.Tests.{le-ltb, lt-leb}
+use Prim.Native.Nat.{ℕ, _^_, _<_, _≤_}
+use borrow.Author.Tests.{lt-ltb, le-ltb, le-leb, lt-leb}
 use lib.Dec.{eqb, leb, ltb}
 use lib.ListN.{length}
 use Rattle.bits.proofs.Decide.{clash}
-use Rattle.map.specs.Map.{part24, reserved}
+use Rattle.map.specs.Map.{part24, reserved, defaults}
 use Rattle.registers.specs.Registers.{core, intAsserted, shown}
 use Rattle.bus.specs.Device.{State, Outcome, out}
 use Rattle.bus.specs.Held.{stateOf}
@@ -23,7 +23,7 @@ use Rattle.promises.specs.Answer.{formed, answerOf, Answers}
 use Rattle.promises.specs.Answer.Answer.{refuse, give}
 use Rattle.promises.specs.Promise.{Promise}
 use Rattle.promises.specs.declared.Planned.{Planned}
-use Rattle.host.specs.Arrays.{Told, Made, Seen, Shown, intOf, planNumber, writesAfter, plannedAs}
+use Rattle.arrays.specs.Arrays.{imageIn, Told, Made, Seen, Shown, intOf, planNumber, writesAfter, plannedAs}
 
 -- the outcome of a step, told in numbers
 pub told-of : (q : Outcome) (a : Answer) (s after : State) (n : ℕ) (before told : List ℕ) → out a s ≡ q → after ≡ s → n ≡ refusalNumber a
@@ -43,6 +43,9 @@ int-told file n t e =
     ap (λ (n : ℕ). n ∷ []) n
     ∙ ap (λ (t : Bool). cond {A = ℕ} t 1 0 ∷ []) (t ∙ ap (λ (r : Rest). intAsserted part24 (core file (r .sets))) e)
 
+pub both-told : {l m h k : ℕ} → l ≡ m → h ≡ k → l ∷ h ∷ [] ≡ m ∷ k ∷ []
+both-told = ap₂ (λ (l h : ℕ). l ∷ h ∷ [])
+
 -- a device that is made, or not
 pub made : (choice levels : ℕ) (before after : State) → makingRefused part24 choice levels ≡ 0 → after ≡ powerOn part24 choice levels → Made choice levels 0 before after
 made choice levels before after e q = record { refused = sym e; image = q ∙ simp e }
@@ -53,13 +56,20 @@ not-made choice levels before e = record { refused = sym e; image = simp e }
 pub choice-over : (choice levels : ℕ) → 3 < choice → makingRefused part24 choice levels ≡ 2
 choice-over choice levels h = simp (lt-leb choice 3 h)
 
--- a refusal of the inner function has but one number
-pub only-two : (choice levels n : ℕ) → n ≡ makingRefused part24 choice levels → (n ≡ 0 → ⊥) → makingRefused part24 choice levels ≡ 2
-only-two choice levels n e h = go (leb choice 3 && ltb levels (2 ^ 24)) (λ z. h (e ∙ z))
+pub levels-over : (choice levels : ℕ) → 0xffffff < levels → makingRefused part24 choice levels ≡ 2
+levels-over choice levels h = ap (λ (b : Bool). cond {A = ℕ} (leb choice 3 && b) 0 2) (le-ltb levels (2 ^ 24) h) ∙ go (leb choice 3)
   where
-    go : (b : Bool) → (_≡_ {A = ℕ} (cond b 0 2) 0 → ⊥) → _≡_ {A = ℕ} (cond b 0 2) 2
-    go true h = absurd (h refl)
-    go false h = refl
+    go : (b : Bool) → _≡_ {A = ℕ} (cond (b && false) 0 2) 2
+    go true = refl
+    go false = refl
+
+pub not-over : (choice levels : ℕ) → choice ≤ 3 → levels < 2 ^ 24 → makingRefused part24 choice levels ≡ 0
+not-over choice levels h k = simp (le-leb choice 3 h, lt-ltb levels (2 ^ 24) k)
+
+pub powered-on : (choice levels : ℕ) {file : List ℕ} {n : ℕ} → file ≡ defaults part24 → n ≡ choice
+    → imageIn (levels ∷ levels ∷ 0 ∷ 0 ∷ []) file (0 ∷ 0 ∷ n ∷ []) ≡ powerOn part24 choice levels
+unfolding powerOn
+powered-on choice levels e n = ap₂ (λ (file : List ℕ) (n : ℕ). imageIn (levels ∷ levels ∷ 0 ∷ 0 ∷ []) file (0 ∷ 0 ∷ n ∷ [])) e n
 
 pub seen : (s : State) (value lent after : List ℕ) → imageFits part24 s ≡ true → after ≡ value → Seen s value 0 lent after
 seen s value lent after e q = (simp e, q ∙ simp e)
@@ -75,6 +85,15 @@ not-shown s n lent e = (simp e, simp e)
 
 pub no-register : (s : State) (n : ℕ) (lent : List ℕ) → imageFits part24 s ≡ true → reserved part24 n ≡ true → Shown s n 2 lent lent
 no-register s n lent e r = (simp (e, r), simp (e, r))
+
+-- the test of the register's number, made on what is left of it as a byte
+pub register-test : {m n : ℕ} {t b : Bool} → m ≡ n → t ≡ reserved part24 m → t ≡ b → reserved part24 n ≡ b
+register-test e i h = ap (reserved part24) (sym e) ∙ sym i ∙ h
+
+pub byte-told : (file : List ℕ) {r q : Rest} {m n b : ℕ} → b ≡ shown part24 (core file (r .sets)) m → r ≡ q → m ≡ n → b ∷ [] ≡ shown part24 (stateOf file q .regs) n ∷ []
+byte-told file b e n =
+    ap (λ (b : ℕ). b ∷ []) b
+    ∙ ap₂ (λ (r : Rest) (n : ℕ). shown part24 (core file (r .sets)) n ∷ []) e n
 
 pub above : (n : ℕ) → 127 < n → reserved part24 n ≡ true
 unfolding reserved

@@ -1,7 +1,7 @@
 use borrow.Author.Needs.{needs}
 use mathlib.Core.Path.{refl}
-use Rattle.host.proofs.tell.Statement.{statement}
-use Rattle.host.proofs.tell.Tie as tie
+use Rattle.arrays.proofs.tell.Statement.{statement}
+use Rattle.arrays.proofs.tell.Tie as tie
 
 enum-told : tie.Need-enum-told
 enum-told c = search needs

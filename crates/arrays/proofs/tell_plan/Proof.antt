@@ -1,7 +1,7 @@
 use borrow.Author.Needs.{needs}
 use mathlib.Core.Path.{refl}
-use Rattle.host.proofs.tell_plan.Statement.{statement}
-use Rattle.host.proofs.tell_plan.Tie as tie
+use Rattle.arrays.proofs.tell_plan.Statement.{statement}
+use Rattle.arrays.proofs.tell_plan.Tie as tie
 
 enum-known-planned : tie.Need-enum-known-planned
 enum-known-planned c = search needs

@@ -1,6 +1,6 @@
 use mathlib.Core.Path.{refl}
-use Rattle.host.proofs.keep.Statement.{statement}
-use Rattle.host.proofs.keep.Tie as tie
+use Rattle.arrays.proofs.keep.Statement.{statement}
+use Rattle.arrays.proofs.keep.Tie as tie
 
 returns : tie.Need-returns
 returns c = refl
