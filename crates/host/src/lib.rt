@@ -6,7 +6,7 @@ ghost use lib.Dec.{eqb};
 ghost use lib.ListN.{length};
 ghost use Rattle.bus.specs.Answers.{answerKind, answerByte, refusalNumber};
 ghost use Rattle.map.specs.Map.{part24};
-ghost use Rattle.device.specs.Refusals.{stepped};
+ghost use Rattle.refusals.specs.Refusals.{stepped};
 ghost use Rattle.planner.specs.Answer.{answerOf, Answers};
 ghost use Rattle.planner.specs.Promise.{Promise};
 ghost use Rattle.host.specs.Arrays.{restIn, imageIn, Told, Made, Seen, Shown, drivesOf, intOf, planNumber, writesAfter, plannedAs};
@@ -82,7 +82,7 @@ pub extern "C" fn ghixramel_arrays_step(
         r (imageIn (now (pins .exit)) (now (file .exit)) (now (line .exit))) (now (told .entry)) (now (told .exit)) ⌝ }
 {
     let rest = rest_in(&*pins, &*line);
-    let o = device::step(file, rest, kind, argument);
+    let o = stepping::step(file, rest, kind, argument);
     let answer = o.answer;
     let after = o.rest;
     keep(after, pins, line);
@@ -134,7 +134,7 @@ pub extern "C" fn ghixramel_arrays_drives(
         (drivesOf (imageIn (now (pins .entry)) (now (file .entry)) (now (line .entry)))) r (now (drives .entry)) (now (drives .exit)) ⌝ }
 {
     let rest = rest_in(pins, line);
-    if device::image_fits(file, rest) {
+    if stepping::image_fits(file, rest) {
         *drives = [views::low(file), views::high(file)];
         return 0;
     }
@@ -162,7 +162,7 @@ pub extern "C" fn ghixramel_arrays_int(
         (intOf (imageIn (now (pins .entry)) (now (file .entry)) (now (line .entry)))) r (now (asserted .entry)) (now (asserted .exit)) ⌝ }
 {
     let rest = rest_in(pins, line);
-    if device::image_fits(file, rest) {
+    if stepping::image_fits(file, rest) {
         *asserted = [one_if(views::int(file, rest.sets))];
         return 0;
     }
@@ -181,7 +181,7 @@ pub extern "C" fn ghixramel_arrays_show(
     ensures { λ r. ⌜ Shown (imageIn (now (pins .entry)) (now (file .entry)) (now (line .entry))) number r (now (byte .entry)) (now (byte .exit)) ⌝ }
 {
     let rest = rest_in(pins, line);
-    if !device::image_fits(file, rest) {
+    if !stepping::image_fits(file, rest) {
         return 3;
     }
     if 127 < number {

@@ -4,7 +4,7 @@ use Prim.Native.Nat.{ℕ, _%_}
 use native.Mathlib.Nat.{mod-eq-of-lt}
 use native.Mathlib.Omega.{arith}
 use Rattle.map.specs.Map.{part24}
-use Rattle.device.specs.PowerOn.{powerOn, makingRefused}
+use Rattle.refusals.specs.PowerOn.{powerOn, makingRefused}
 use Rattle.bus.specs.Held.{stateOf}
 use Rattle.host.proofs.Laws.{made, not-made, choice-over, only-two}
 use Rattle.host.proofs.ghixramel_arrays_power_on.Statement.{statement}

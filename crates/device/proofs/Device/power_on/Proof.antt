@@ -1,5 +1,5 @@
 use borrow.Author.Needs.{needs}
-use Rattle.device.proofs.Making.{choice-over, levels-over, power-made}
+use Rattle.refusals.proofs.Making.{choice-over, levels-over, power-made}
 use native.Mathlib.Omega.{arith}
 use Rattle.device.proofs.Device.power_on.Statement.{statement}
 use Rattle.device.proofs.Device.power_on.Tie as tie

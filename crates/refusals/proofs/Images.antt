@@ -14,7 +14,7 @@ use Rattle.pins.specs.declared.Sets.{Sets}
 use Rattle.map.specs.Map.{part24, kindAt, code, reserved, fileFits}
 use Rattle.map.specs.Map.Kind.{Reserved}
 use Rattle.bus.specs.Device.{State, out, step}
-use Rattle.device.specs.Refusals.{setsFit, imageFits, refusal, stepped}
+use Rattle.refusals.specs.Refusals.{setsFit, imageFits, refusal, stepped}
 use Rattle.bus.specs.Device.Event.{Start, Stop, HardwareReset, ByteSent, ByteFetched, Levels}
 use Rattle.bus.specs.Held.{Sound, stateOf}
 use Rattle.bus.specs.declared.Rest.{Rest}

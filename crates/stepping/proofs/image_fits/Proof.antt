@@ -1,8 +1,8 @@
 use borrow.Author.Needs.{needs}
 use mathlib.Core.Path.{_∙_}
-use Rattle.device.proofs.Images.{image-test}
-use Rattle.device.proofs.image_fits.Statement.{statement}
-use Rattle.device.proofs.image_fits.Tie as tie
+use Rattle.refusals.proofs.Images.{image-test}
+use Rattle.stepping.proofs.image_fits.Statement.{statement}
+use Rattle.stepping.proofs.image_fits.Tie as tie
 
 parts-fit-requires : tie.Need-parts-fit-requires
 parts-fit-requires c κs = search needs

@@ -2,9 +2,9 @@ use borrow.Author.Needs.{needs}
 use mathlib.Core.Path.{sym, _∙_}
 use borrow.Author.Tests.{not-true, not-false}
 use Rattle.bus.specs.Held.{stateOf}
-use Rattle.device.proofs.Images.{broken, image-test}
-use Rattle.device.proofs.step.Statement.{statement}
-use Rattle.device.proofs.step.Tie as tie
+use Rattle.refusals.proofs.Images.{broken, image-test}
+use Rattle.stepping.proofs.step.Statement.{statement}
+use Rattle.stepping.proofs.step.Tie as tie
 
 parts-fit-requires : tie.Need-parts-fit-requires
 parts-fit-requires c κs = search needs

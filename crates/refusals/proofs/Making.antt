@@ -6,21 +6,22 @@ use Prim.Native.Nat.{ℕ, _^_, _<_}
 use native.Mathlib.Omega.{arith}
 use borrow.Author.Tests.{lt-ltb, le-ltb, lt-leb, le-leb}
 use Rattle.map.specs.Map.{part24, reserved, kindAt, defaults}
+use Rattle.registers.specs.Registers.{core}
 use Rattle.registers.proofs.Writing.{same}
-use Rattle.device.specs.Refusals.{setsFit, imageFits}
+use Rattle.bus.specs.Device.{State, state}
+use Rattle.refusals.specs.Refusals.{setsFit, imageFits}
 use Rattle.bus.proofs.Stepping.{same-state}
-use Rattle.device.specs.PowerOn.{stateIn, powerOn, makingRefused, MadeOf}
-use Rattle.device.specs.declared.Device.{Device}
+use Rattle.refusals.specs.PowerOn.{powerOn, makingRefused, MadeOf}
 
-abbrev at-power-on : List ℕ → (choice levels : ℕ) → Device
-at-power-on file choice levels = record { file = file; sets = record { level = levels; reference = levels; held = 0; edge = 0 }; pointer = 0; bus = 0; choice = choice }
+abbrev at-power-on : List ℕ → (choice levels : ℕ) → State
+at-power-on file choice levels = state (core file (record { level = levels; reference = levels; held = 0; edge = 0 })) 0 0 choice
 
 module _ (file : List ℕ) (choice levels : ℕ) (e : file ≡ defaults part24) where
-  made-so : stateIn (at-power-on file choice levels) ≡ powerOn part24 choice levels
+  made-so : at-power-on file choice levels ≡ powerOn part24 choice levels
   unfolding powerOn
   made-so = same-state (same e refl) refl refl refl
 
-  not-made : makingRefused part24 choice levels ≡ 2 → imageFits part24 (stateIn (at-power-on file choice levels)) ≡ false → MadeOf part24 choice levels 2 (at-power-on file choice levels)
+  not-made : makingRefused part24 choice levels ≡ 2 → imageFits part24 (at-power-on file choice levels) ≡ false → MadeOf part24 choice levels 2 (at-power-on file choice levels)
   not-made q i = record { number = sym q; made = made-so; none = λ z. i }
 
   pub choice-over : 3 < choice → MadeOf part24 choice levels 2 (at-power-on file choice levels)

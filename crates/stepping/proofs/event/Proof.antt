@@ -2,12 +2,12 @@ use borrow.Author.Needs.{needs}
 use mathlib.Core.Path.{sym, ap, _∙_}
 use Prim.Native.Nat.{ℕ}
 use Rattle.map.specs.Map.{part24}
-use Rattle.device.specs.Refusals.{stepped}
+use Rattle.refusals.specs.Refusals.{stepped}
 use Rattle.bus.specs.Held.{stateOf}
-use Rattle.device.proofs.Images.{sound-of, unknown-kind, byte-refused, byte-taken, fetch-refused, fetch-taken, levels-refused, levels-taken}
+use Rattle.refusals.proofs.Images.{sound-of, unknown-kind, byte-refused, byte-taken, fetch-refused, fetch-taken, levels-refused, levels-taken}
 use native.Mathlib.Omega.{arith}
-use Rattle.device.proofs.event.Statement.{statement}
-use Rattle.device.proofs.event.Tie as tie
+use Rattle.stepping.proofs.event.Statement.{statement}
+use Rattle.stepping.proofs.event.Tie as tie
 
 returns : tie.Need-returns
 returns c =

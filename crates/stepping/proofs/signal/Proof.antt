@@ -3,13 +3,13 @@ use mathlib.Core.Path.{sym, ap, _∙_}
 use Prim.Native.Nat.{ℕ}
 use Rattle.map.specs.Map.{part24}
 use Rattle.bus.specs.Device.{out, step}
-use Rattle.device.specs.Refusals.{stepped}
+use Rattle.refusals.specs.Refusals.{stepped}
 use Rattle.bus.specs.Held.{stateOf}
 use Rattle.bus.specs.declared.Rest.{Rest}
 use Rattle.bus.specs.declared.Answer.the-variants.{Nothing}
-use Rattle.device.proofs.Images.{sound-of, start-taken, stop-taken, reset-taken, five}
-use Rattle.device.proofs.signal.Statement.{statement}
-use Rattle.device.proofs.signal.Tie as tie
+use Rattle.refusals.proofs.Images.{sound-of, start-taken, stop-taken, reset-taken, five}
+use Rattle.stepping.proofs.signal.Statement.{statement}
+use Rattle.stepping.proofs.signal.Tie as tie
 
 moved-requires : tie.Need-moved-requires
 moved-requires c κs = search needs
