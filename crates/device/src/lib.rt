@@ -62,6 +62,7 @@ impl Device {
     pub fn power_on(choice: u8, levels: u64) -> Made
         ensures { λ m. ⌜ MadeOf part24 choice levels (m .refusal) (stateIn (m .device)) ⌝ }
     {
+        let refusal = refusing::making_refusal(choice, levels);
         let file = Self::reset_values();
         let sets = Sets {
             level: levels,
@@ -76,13 +77,7 @@ impl Device {
             bus: 0,
             choice,
         };
-        if 3 < choice {
-            return Made { refusal: 2, device };
-        }
-        if 0xff_ffff < levels {
-            return Made { refusal: 2, device };
-        }
-        Made { refusal: 0, device }
+        Made { refusal, device }
     }
 
     // One event.

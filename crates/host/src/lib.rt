@@ -134,7 +134,7 @@ pub extern "C" fn ghixramel_arrays_drives(
         (drivesOf (imageIn (now (pins .entry)) (now (file .entry)) (now (line .entry)))) r (now (drives .entry)) (now (drives .exit)) ⌝ }
 {
     let rest = rest_in(pins, line);
-    if stepping::image_fits(file, rest) {
+    if refusing::image_fits(file, rest) {
         *drives = [views::low(file), views::high(file)];
         return 0;
     }
@@ -162,7 +162,7 @@ pub extern "C" fn ghixramel_arrays_int(
         (intOf (imageIn (now (pins .entry)) (now (file .entry)) (now (line .entry)))) r (now (asserted .entry)) (now (asserted .exit)) ⌝ }
 {
     let rest = rest_in(pins, line);
-    if stepping::image_fits(file, rest) {
+    if refusing::image_fits(file, rest) {
         *asserted = [one_if(views::int(file, rest.sets))];
         return 0;
     }
@@ -181,7 +181,7 @@ pub extern "C" fn ghixramel_arrays_show(
     ensures { λ r. ⌜ Shown (imageIn (now (pins .entry)) (now (file .entry)) (now (line .entry))) number r (now (byte .entry)) (now (byte .exit)) ⌝ }
 {
     let rest = rest_in(pins, line);
-    if !stepping::image_fits(file, rest) {
+    if !refusing::image_fits(file, rest) {
         return 3;
     }
     if 127 < number {
