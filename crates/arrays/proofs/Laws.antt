@@ -14,8 +14,8 @@ use Rattle.bus.specs.Held.{stateOf}
 use Rattle.bus.specs.Answers.{answerKind, answerByte, refusalNumber}
 use Rattle.bus.specs.declared.Answer.{Answer}
 use Rattle.bus.specs.declared.Rest.{Rest}
-use Rattle.device.specs.Refusals.{imageFits}
-use Rattle.device.specs.PowerOn.{powerOn, makingRefused}
+use Rattle.refusals.specs.Refusals.{imageFits}
+use Rattle.refusals.specs.PowerOn.{powerOn, makingRefused}
 use Rattle.quiet.specs.Settings.{shape24, Write}
 use Rattle.quiet.specs.Order.{blocked}
 use Rattle.quiet.specs.Route.{planOf}

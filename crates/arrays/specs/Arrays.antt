@@ -11,8 +11,8 @@ use Rattle.bus.specs.Device.{State, Outcome}
 use Rattle.bus.specs.Held.{stateOf}
 use Rattle.bus.specs.Answers.{answerKind, answerByte, refusalNumber}
 use Rattle.bus.specs.declared.Rest.{Rest}
-use Rattle.device.specs.Refusals.{imageFits}
-use Rattle.device.specs.PowerOn.{powerOn, makingRefused}
+use Rattle.refusals.specs.Refusals.{imageFits}
+use Rattle.refusals.specs.PowerOn.{powerOn, makingRefused}
 use Rattle.promises.specs.declared.Planned.{Planned}
 
 -- the pin sets in the order level, reference, held, edge; then pointer, bus state, address choice

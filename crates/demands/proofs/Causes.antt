@@ -10,7 +10,7 @@ use Rattle.pins.proofs.Causes.{only-by-cause}
 use Rattle.map.specs.Map.{part24}
 use Rattle.registers.specs.Registers.{onePin}
 use Rattle.bus.specs.Device.{State, out, step}
-use Rattle.device.specs.Refusals.{refusal, stepped, eventOf}
+use Rattle.refusals.specs.Refusals.{refusal, stepped, eventOf}
 use Rattle.bus.specs.declared.Answer.the-variants.{Refused}
 use Rattle.demands.specs.Happens.{happensTo}
 use Rattle.demands.proofs.Machine.{as-one-pin}

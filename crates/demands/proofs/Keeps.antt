@@ -17,13 +17,13 @@ use Rattle.map.specs.Map.{Part, Kind, part24, kindAt, reserved, next, stored, d
 use Rattle.map.specs.Map.Kind.{Reserved, Input, Status, InputStatus, Configuration, Latch, Mask, PortKind, Edge, Clear, Output, Polarity, PinKind, Stored}
 use Rattle.registers.specs.Registers.{keptAs, writtenAs, fetched, levelled}
 use Rattle.bus.specs.Device.{State, Event, Bus, Outcome, number, busAt, state, out, goes, addressByte, byteIn, fetchIn, resetted, step}
-use Rattle.device.specs.Refusals.{setsFit, imageFits, refusal, stepped, eventOf}
+use Rattle.refusals.specs.Refusals.{setsFit, imageFits, refusal, stepped, eventOf}
 use Rattle.bus.specs.Device.Bus.{Idle, Opened, Chosen, Filling, Sending, Call, Armed, Deaf}
 use Rattle.bus.specs.Device.Event.{Start, Stop, HardwareReset, ByteSent, ByteFetched, Levels}
 use Rattle.bus.specs.Held.{Sound}
 use Rattle.bus.specs.declared.Answer.the-variants.{Ack, Nak}
-use Rattle.device.specs.PowerOn.{powerOn}
-use Rattle.device.proofs.Images.{sound-of, known-small}
+use Rattle.refusals.specs.PowerOn.{powerOn}
+use Rattle.refusals.proofs.Images.{sound-of, known-small}
 use Rattle.demands.specs.Run.{Asked, after}
 use Rattle.demands.proofs.Pinwise.{load-set}
 

@@ -7,13 +7,14 @@ use lib.Dec.{eqb, leb}
 use Rattle.map.specs.Map.{part24, reserved}
 use Rattle.registers.specs.Registers.{drivenLow, drivenHigh, intAsserted}
 use Rattle.bus.specs.Device.{State, Event, Bus, Outcome, busAt, out, addressByte, byteIn, fetchIn, step}
-use Rattle.device.specs.Refusals.{argumentFits, refusal, stepped, eventOf}
+use Rattle.refusals.specs.Refusals.{argumentFits, refusal, stepped, eventOf}
 use Rattle.bus.specs.Device.Bus.{Idle, Opened, Chosen, Filling, Sending, Call, Armed, Deaf}
 use Rattle.bus.specs.Device.Event.{Start, Stop, HardwareReset, ByteSent, ByteFetched, Levels}
 use Rattle.bus.specs.Answers.{refusalNumber}
 use Rattle.bus.specs.declared.Answer.{Answer}
 use Rattle.bus.specs.declared.Answer.the-variants.{Refused}
-use Rattle.device.specs.PowerOn.{stateIn, powerOn}
+use Rattle.refusals.specs.PowerOn.{powerOn}
+use Rattle.device.specs.Held.{stateIn}
 use Rattle.device.specs.declared.Device.{Device}
 use Rattle.device.specs.declared.Stepped.{Stepped}
 use Rattle.demands.specs.Run.{Asked, Seen, seen, after, run, answers, runWith}

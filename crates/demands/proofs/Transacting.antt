@@ -9,12 +9,12 @@ use Rattle.bits.specs.Bits.{val}
 use Rattle.map.specs.Map.{part24, reserved, next}
 use Rattle.registers.specs.Registers.{written, fetched, shown}
 use Rattle.bus.specs.Device.{State, Outcome, number, state, out, goes, addressByte, byteIn, fetchIn, step}
-use Rattle.device.specs.Refusals.{stepped}
+use Rattle.refusals.specs.Refusals.{stepped}
 use Rattle.bus.specs.Device.Bus.{Idle, Opened, Chosen, Filling, Sending, Deaf}
 use Rattle.bus.specs.Device.Event.{ByteSent}
 use Rattle.bus.specs.declared.Answer.{Answer}
 use Rattle.bus.specs.declared.Answer.the-variants.{Nothing, Ack, Byte}
-use Rattle.device.proofs.Images.{known-small, start-taken, stop-taken, byte-taken, fetch-taken}
+use Rattle.refusals.proofs.Images.{known-small, start-taken, stop-taken, byte-taken, fetch-taken}
 use Rattle.demands.specs.Run.{Asked, after, answers}
 use Rattle.demands.specs.Transactions.{START, STOP, sent, toWrite, toRead, fetch as fetched-byte, writeOver, readOver, readOn}
 use Rattle.demands.proofs.Keeps.{WellFormed, image-of, to, point-keeps, fill-keeps}

@@ -5,7 +5,7 @@ use Prim.Native.Nat.{ℕ}
 use Rattle.map.specs.Map.{Part}
 use Rattle.registers.specs.Registers.{drivenLow, drivenHigh, intAsserted}
 use Rattle.bus.specs.Device.{State, Outcome}
-use Rattle.device.specs.Refusals.{stepped}
+use Rattle.refusals.specs.Refusals.{stepped}
 use Rattle.bus.specs.declared.Answer.{Answer}
 use Rattle.device.specs.declared.Device.{Device}
 use Rattle.device.specs.declared.Stepped.{Stepped}

@@ -1,129 +1,17 @@
-// The device, as its callers have it: one step of it with every refusal, on lent memory and by value.
+// The device by value, as its callers have it: made, stepped and asked.
 ghost use mathlib.Core.Path.{_≡_};
-ghost use mathlib.Core.Bool.{true, not, cond, _&&_};
-ghost use Prim.Native.Nat.{ℕ, _<_, _^_};
+ghost use mathlib.Core.Bool.{cond};
 ghost use lib.Dec.{ltb};
-ghost use Rattle.map.specs.Map.{part24, reserved, fileFits, defaults};
+ghost use Rattle.map.specs.Map.{part24, defaults};
 ghost use Rattle.registers.specs.Registers.{drivenLow, drivenHigh, intAsserted, shown};
 ghost use Rattle.bus.specs.Device.{out};
-ghost use Rattle.device.specs.Refusals.{imageFits, stepped};
 ghost use Rattle.bus.specs.Held.{stateOf};
-ghost use Rattle.device.specs.PowerOn.{stateIn, MadeOf};
+ghost use Rattle.refusals.specs.Refusals.{stepped};
+ghost use Rattle.refusals.specs.PowerOn.{MadeOf};
+ghost use Rattle.device.specs.Held.{stateIn};
 use bus::Answer;
-use bus::Out;
 use bus::Rest;
 use pins::Sets;
-
-// What refusal 3 asks, of plain numbers, which are passed in registers; all has the pins of all four sets.
-fn parts_fit(file: &[u8; 128], all: u64, pointer: u8, bus: u8, choice: u8) -> bool
-    ensures { λ t. ⌜ t ≡ (not (reserved part24 pointer) && (ltb bus 8 && (ltb choice 4 && (ltb all (2 ^ 24) && fileFits part24 (now (file .entry)))))) ⌝ }
-{
-    if lookup::is_reserved(pointer) {
-        return false;
-    }
-    if 8 <= bus {
-        return false;
-    }
-    if 4 <= choice {
-        return false;
-    }
-    if 0x100_0000 <= all {
-        return false;
-    }
-    files::file_fits(file)
-}
-
-// Whether the state may stand: what refusal 3 asks.
-pub fn image_fits(file: &[u8; 128], r: Rest) -> bool
-    ensures { λ t. ⌜ t ≡ imageFits part24 (stateOf (now (file .entry)) r) ⌝ }
-{
-    let x = r.sets;
-    let all = x.level | x.reference | x.held | x.edge;
-    parts_fit(file, all, r.pointer, r.bus, r.choice)
-}
-
-// START, STOP or hardware reset.
-fn signal(file: &mut [u8; 128], r: Rest, kind: u32) -> Out
-    requires { ⌜ (imageFits part24 (stateOf (now file) r) ≡ true) × (kind < 6) × (kind ≡ 2 → ⊥) × (kind ≡ 3 → ⊥) × (kind ≡ 4 → ⊥) ⌝ }
-    ensures { λ o. ⌜ ((arg : ℕ) → out (o .answer) (stateOf (now (file .exit)) (o .rest)) ≡ stepped part24 (stateOf (now (file .entry)) r) kind arg) ⌝ }
-{
-    let pointer = r.pointer;
-    if kind == 0 {
-        return Out {
-            answer: Answer::Nothing,
-            rest: bus::moved(r, pointer, 1),
-        };
-    }
-    if kind == 1 {
-        return Out {
-            answer: Answer::Nothing,
-            rest: bus::stop(file, r),
-        };
-    }
-    Out {
-        answer: Answer::Nothing,
-        rest: bus::reset(file, r),
-    }
-}
-
-// One event on a state whose image fits.
-fn event(file: &mut [u8; 128], r: Rest, kind: u32, arg: u64) -> Out
-    requires { ⌜ imageFits part24 (stateOf (now file) r) ≡ true ⌝ }
-    ensures { λ o. ⌜ out (o .answer) (stateOf (now (file .exit)) (o .rest)) ≡ stepped part24 (stateOf (now (file .entry)) r) kind arg ⌝ }
-{
-    if 5 < kind {
-        return Out {
-            answer: Answer::Refused(1),
-            rest: r,
-        };
-    }
-    if kind == 2 {
-        if 255 < arg {
-            return Out {
-                answer: Answer::Refused(2),
-                rest: r,
-            };
-        }
-        return transfers::byte(file, r, arg as u8);
-    }
-    if kind == 3 {
-        if 1 < arg {
-            return Out {
-                answer: Answer::Refused(2),
-                rest: r,
-            };
-        }
-        return transfers::fetch(&*file, r, arg == 1);
-    }
-    if kind == 4 {
-        if 0xff_ffff < arg {
-            return Out {
-                answer: Answer::Refused(2),
-                rest: r,
-            };
-        }
-        return Out {
-            answer: Answer::Nothing,
-            rest: bus::levels(&*file, r, arg),
-        };
-    }
-    signal(file, r, kind)
-}
-
-// One event on a register file that the caller lends and the rest of the state, whatever they hold.
-pub fn step(file: &mut [u8; 128], r: Rest, kind: u32, arg: u64) -> Out
-    ensures { λ o. ⌜ out (o .answer) (stateOf (now (file .exit)) (o .rest)) ≡ stepped part24 (stateOf (now (file .entry)) r) kind arg ⌝ }
-{
-    let x = r.sets;
-    let all = x.level | x.reference | x.held | x.edge;
-    if !parts_fit(&*file, all, r.pointer, r.bus, r.choice) {
-        return Out {
-            answer: Answer::Refused(3),
-            rest: r,
-        };
-    }
-    event(file, r, kind, arg)
-}
 
 // The state of the device: one byte for each command number beside the pin sets, the pointer, the bus state and the address choice.
 pub struct Device {
@@ -172,8 +60,9 @@ impl Device {
 
     // A device at power-on, at this address choice and with these levels.
     pub fn power_on(choice: u8, levels: u64) -> Made
-        ensures { λ m. ⌜ MadeOf part24 choice levels (m .refusal) (m .device) ⌝ }
+        ensures { λ m. ⌜ MadeOf part24 choice levels (m .refusal) (stateIn (m .device)) ⌝ }
     {
+        let refusal = refusing::making_refusal(choice, levels);
         let file = Self::reset_values();
         let sets = Sets {
             level: levels,
@@ -188,13 +77,7 @@ impl Device {
             bus: 0,
             choice,
         };
-        if 3 < choice {
-            return Made { refusal: 2, device };
-        }
-        if 0xff_ffff < levels {
-            return Made { refusal: 2, device };
-        }
-        Made { refusal: 0, device }
+        Made { refusal, device }
     }
 
     // One event.
@@ -209,7 +92,7 @@ impl Device {
             bus: self.bus,
             choice: self.choice,
         };
-        let o = step(&mut file, rest, kind, arg);
+        let o = stepping::step(&mut file, rest, kind, arg);
         let answer = o.answer;
         let after = o.rest;
         let device = Device::of(file, after);

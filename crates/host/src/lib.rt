@@ -4,7 +4,7 @@ ghost use mathlib.Core.Bool.{false};
 ghost use lib.Dec.{eqb};
 ghost use lib.ListN.{length};
 ghost use Rattle.map.specs.Map.{part24};
-ghost use Rattle.device.specs.Refusals.{stepped};
+ghost use Rattle.refusals.specs.Refusals.{stepped};
 ghost use Rattle.promises.specs.Answer.{answerOf, Answers};
 ghost use Rattle.promises.specs.Promise.{Promise};
 ghost use Rattle.arrays.specs.Arrays.{imageIn, Told, Made, Seen, Shown, drivesOf, intOf, plannedAs};
@@ -23,7 +23,7 @@ pub extern "C" fn ghixramel_arrays_step(
         r (imageIn (now (pins .exit)) (now (file .exit)) (now (line .exit))) (now (told .entry)) (now (told .exit)) ⌝ }
 {
     let rest = arrays::rest_in(&*pins, &*line);
-    let o = device::step(file, rest, kind, argument);
+    let o = stepping::step(file, rest, kind, argument);
     let answer = o.answer;
     arrays::keep(o.rest, pins, line);
     arrays::tell(answer, told)
@@ -65,7 +65,7 @@ pub extern "C" fn ghixramel_arrays_drives(
         (drivesOf (imageIn (now (pins .entry)) (now (file .entry)) (now (line .entry)))) r (now (drives .entry)) (now (drives .exit)) ⌝ }
 {
     let rest = arrays::rest_in(pins, line);
-    if device::image_fits(file, rest) {
+    if refusing::image_fits(file, rest) {
         let low = views::low(file);
         let high = views::high(file);
         *drives = [low, high];
@@ -86,7 +86,7 @@ pub extern "C" fn ghixramel_arrays_int(
         (intOf (imageIn (now (pins .entry)) (now (file .entry)) (now (line .entry)))) r (now (asserted .entry)) (now (asserted .exit)) ⌝ }
 {
     let rest = arrays::rest_in(pins, line);
-    if device::image_fits(file, rest) {
+    if refusing::image_fits(file, rest) {
         *asserted = [arrays::one_if(views::int(file, rest.sets))];
         return 0;
     }
@@ -105,7 +105,7 @@ pub extern "C" fn ghixramel_arrays_show(
     ensures { λ r. ⌜ Shown (imageIn (now (pins .entry)) (now (file .entry)) (now (line .entry))) number r (now (byte .entry)) (now (byte .exit)) ⌝ }
 {
     let rest = arrays::rest_in(pins, line);
-    if !device::image_fits(file, rest) {
+    if !refusing::image_fits(file, rest) {
         return 3;
     }
     if 127 < number {

@@ -18,7 +18,7 @@ use Rattle.answers.proofs.Laws.{answered, line-short}
 use Rattle.map.specs.Map.{part24}
 use Rattle.registers.specs.Registers.{core}
 use Rattle.bus.specs.Device.{State, Outcome, state, out as outcome}
-use Rattle.device.specs.Refusals.{stepped}
+use Rattle.refusals.specs.Refusals.{stepped}
 use Rattle.tracing.specs.Tracing.{shownLine}
 use Rattle.fields.specs.Fields.{widths, readable, bytesAt, numberIn, bytesText, fieldsText}
 use Rattle.fieldtexts.proofs.Writing.{fields-both}

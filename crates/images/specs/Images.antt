@@ -7,7 +7,7 @@ use Rattle.pins.specs.declared.Sets.{Sets}
 use Rattle.map.specs.Map.{part24}
 use Rattle.registers.specs.Registers.{core}
 use Rattle.bus.specs.Device.{State, Outcome, state}
-use Rattle.device.specs.Refusals.{stepped}
+use Rattle.refusals.specs.Refusals.{stepped}
 use Rattle.answers.specs.Answers.{lineEnd, refusedLine}
 use Rattle.tracing.specs.Tracing.{shownLine}
 use Rattle.fields.specs.Fields.{widths, readable, bytesAt, numberIn, bytesText, fieldsText}

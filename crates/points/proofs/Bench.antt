@@ -7,8 +7,8 @@ use Rattle.pins.specs.OnePin.{pinAfter}
 use Rattle.map.specs.Map.{kindAt, reserved, next, defaults, fitting, fileFits}
 use Rattle.registers.specs.Registers.{drivenLow, drivenHigh, intAsserted, shownAs, writtenTo, writtenAs, fetchedAs, fetched, levelled}
 use Rattle.bus.specs.Device.{resetted, byteIn, fetchIn, step}
-use Rattle.device.specs.Refusals.{setsFit, imageFits, refusal, stepped}
-use Rattle.device.specs.PowerOn.{powerOn}
+use Rattle.refusals.specs.Refusals.{setsFit, imageFits, refusal, stepped}
+use Rattle.refusals.specs.PowerOn.{powerOn}
 use Rattle.quiet.specs.Route.{midConfiguration, midOutput, planOf}
 use Rattle.promises.specs.Answer.{answerOf}
 use Rattle.points.specs.Bench.{cases, all}

@@ -8,10 +8,10 @@ use Rattle.bits.specs.Bits.{val}
 use Rattle.map.specs.Map.{part24}
 use Rattle.registers.specs.Registers.{drivenLow, drivenHigh, intAsserted}
 use Rattle.bus.specs.Device.{Outcome, out}
-use Rattle.device.specs.Refusals.{stepped}
+use Rattle.refusals.specs.Refusals.{stepped}
 use Rattle.bus.specs.Answers.{answerKind, answerByte}
 use Rattle.bus.specs.declared.Answer.the-variants.{Nothing}
-use Rattle.device.specs.PowerOn.{powerOn}
+use Rattle.refusals.specs.PowerOn.{powerOn}
 use Rattle.demands.specs.Run.{Asked}
 use Rattle.quiet.specs.Settings.{Settings}
 use Rattle.promises.specs.Answer.{Answer, answerOf}

@@ -8,7 +8,7 @@ use borrow.Author.Tests.{not-true}
 use Rattle.bits.proofs.Decide.{eachBool}
 use Rattle.map.specs.Map.{part24, kindAt, reserved}
 use Rattle.bus.specs.Device.{State}
-use Rattle.device.specs.Refusals.{stepped}
+use Rattle.refusals.specs.Refusals.{stepped}
 use Rattle.demands.specs.Run.{Asked, after}
 use Rattle.demands.specs.Transactions.{writeOver}
 use Rattle.demands.proofs.Keeps.{WellFormed, run-keeps}

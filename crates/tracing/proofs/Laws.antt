@@ -10,8 +10,8 @@ use Rattle.bus.specs.Device.{State, Outcome, out}
 use Rattle.bus.specs.Held.{stateOf}
 use Rattle.bus.specs.declared.Answer.{Answer}
 use Rattle.bus.specs.declared.Answer.the-variants.{Nothing, Refused}
-use Rattle.device.specs.Refusals.{stepped}
-use Rattle.device.specs.PowerOn.{powerOn}
+use Rattle.refusals.specs.Refusals.{stepped}
+use Rattle.refusals.specs.PowerOn.{powerOn}
 use Rattle.lines.specs.declared.Line.{Line}
 use Rattle.lines.specs.declared.Line.the-variants.{Event, Unreadable, Device as MadeLine}
 use Rattle.lines.specs.Lines.{lineOf}

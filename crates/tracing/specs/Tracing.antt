@@ -7,9 +7,9 @@ use Rattle.map.specs.Map.{part24}
 use Rattle.registers.specs.Registers.{drivenLow, drivenHigh, intAsserted}
 use Rattle.bus.specs.Device.{State, Outcome, out}
 use Rattle.bus.specs.declared.Answer.the-variants.{Nothing}
-use Rattle.device.specs.Refusals.{stepped}
+use Rattle.refusals.specs.Refusals.{stepped}
 use Rattle.bus.specs.Held.{stateOf}
-use Rattle.device.specs.PowerOn.{powerOn}
+use Rattle.refusals.specs.PowerOn.{powerOn}
 use Rattle.text.specs.Text.{Wrote}
 use Rattle.lines.specs.declared.Line.{Line}
 use Rattle.lines.specs.declared.Line.the-variants.{Device, Event, Unreadable}

@@ -6,7 +6,7 @@ ghost use Rattle.bus.specs.Device.{out as outcome};
 ghost use Rattle.bus.specs.Held.{stateOf};
 ghost use Rattle.bus.specs.declared.Answer.the-variants.{Nothing};
 ghost use Rattle.map.specs.Map.{part24};
-ghost use Rattle.device.specs.PowerOn.{powerOn};
+ghost use Rattle.refusals.specs.PowerOn.{powerOn};
 ghost use Rattle.lines.specs.Lines.{lineOf};
 ghost use Rattle.tracing.specs.Tracing.{sessionOf, traced, told, unreadable, Says};
 use bus::Answer;
@@ -74,7 +74,7 @@ fn event(file: &mut [u8; 128], desk: Desk, kind: u32, arg: u64, out: &mut [u8], 
 {
     if desk.has {
         let rest = desk.rest;
-        let o = device::step(file, rest, kind, arg);
+        let o = stepping::step(file, rest, kind, arg);
         let answer = o.answer;
         let after = o.rest;
         return tell(&*file, after, answer, out, at);

@@ -3,7 +3,7 @@ use mathlib.Core.Path.{ap, _∙_}
 use Rattle.map.specs.Map.{part24}
 use Rattle.bus.specs.Held.{stateOf}
 use Rattle.bus.specs.declared.Rest.{Rest}
-use Rattle.device.specs.Refusals.{stepped}
+use Rattle.refusals.specs.Refusals.{stepped}
 use Rattle.arrays.proofs.Laws.{told-of}
 use Rattle.host.proofs.ghixramel_arrays_step.Statement.{statement}
 use Rattle.host.proofs.ghixramel_arrays_step.Tie as tie

@@ -1,8 +1,8 @@
 use borrow.Author.Needs.{needs}
 use mathlib.Core.Path.{sym, _∙_}
 use borrow.Author.Tests.{lt-ltb, le-ltb}
-use Rattle.device.proofs.parts_fit.Statement.{statement}
-use Rattle.device.proofs.parts_fit.Tie as tie
+use Rattle.refusing.proofs.parts_fit.Statement.{statement}
+use Rattle.refusing.proofs.parts_fit.Tie as tie
 
 is-reserved-requires : tie.Need-is-reserved-requires
 is-reserved-requires c κs = search needs

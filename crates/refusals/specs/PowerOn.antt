@@ -6,13 +6,8 @@ use lib.Dec.{leb, ltb}
 use Rattle.map.specs.Map.{Part, defaults}
 use Rattle.registers.specs.Registers.{core}
 use Rattle.bus.specs.Device.{State, state, number}
-use Rattle.device.specs.Refusals.{imageFits}
+use Rattle.refusals.specs.Refusals.{imageFits}
 use Rattle.bus.specs.Device.Bus.{Idle}
-use Rattle.device.specs.declared.Device.{Device}
-
--- the state that a device's fields hold: all of it
-abbrev pub stateIn : Device → State
-stateIn d = state (core (d .file) (d .sets)) (d .pointer) (d .bus) (d .choice)
 
 -- Power-on: defaults, pointer 00h, Idle, no events held, each reference at the present level.
 unfoldable pub powerOn : Part → (choice levels : ℕ) → State
@@ -23,8 +18,8 @@ powerOn p choice levels =
 abbrev pub makingRefused : Part → (choice levels : ℕ) → ℕ
 makingRefused p choice levels = cond (leb choice 3 && ltb levels (2 ^ p .width)) 0 2
 
--- what making a device gives: the refusal's number, and the device at power-on or, refused, one that every step refuses
-pub record MadeOf (p : Part) (choice levels : ℕ) (refusal : ℕ) (d : Device) : Type 0 where
+-- what making a device gives: the refusal's number, and the state at power-on or, refused, one that every step refuses
+pub record MadeOf (p : Part) (choice levels : ℕ) (refusal : ℕ) (s : State) : Type 0 where
   pub number : refusal ≡ makingRefused p choice levels
-  pub made : stateIn d ≡ powerOn p choice levels
-  pub none : makingRefused p choice levels ≡ 2 → imageFits p (stateIn d) ≡ false
+  pub made : s ≡ powerOn p choice levels
+  pub none : makingRefused p choice levels ≡ 2 → imageFits p s ≡ false
