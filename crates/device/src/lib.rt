@@ -5,7 +5,6 @@ ghost use lib.Dec.{ltb};
 ghost use Rattle.map.specs.Map.{part24, defaults};
 ghost use Rattle.registers.specs.Registers.{drivenLow, drivenHigh, intAsserted, shown};
 ghost use Rattle.bus.specs.Device.{out};
-ghost use Rattle.bus.specs.Held.{stateOf};
 ghost use Rattle.refusals.specs.Refusals.{stepped};
 ghost use Rattle.refusals.specs.PowerOn.{MadeOf};
 ghost use Rattle.device.specs.Held.{stateIn};
@@ -45,19 +44,6 @@ impl Device {
         files::default_file()
     }
 
-    fn of(file: [u8; 128], r: Rest) -> Device
-        ensures { λ d. ⌜ stateIn d ≡ stateOf file r ⌝ }
-    {
-        let sets = r.sets;
-        Device {
-            file,
-            sets,
-            pointer: r.pointer,
-            bus: r.bus,
-            choice: r.choice,
-        }
-    }
-
     // A device at power-on, at this address choice and with these levels.
     pub fn power_on(choice: u8, levels: u64) -> Made
         ensures { λ m. ⌜ MadeOf part24 choice levels (m .refusal) (stateIn (m .device)) ⌝ }
@@ -95,7 +81,14 @@ impl Device {
         let o = stepping::step(&mut file, rest, kind, arg);
         let answer = o.answer;
         let after = o.rest;
-        let device = Device::of(file, after);
+        let sets = after.sets;
+        let device = Device {
+            file,
+            sets,
+            pointer: after.pointer,
+            bus: after.bus,
+            choice: after.choice,
+        };
         Stepped { answer, device }
     }
 
