@@ -18,7 +18,7 @@ returns c = λ s e. unknown-kind s (c .before .args .arg) e (c .before .args .ki
 returns-2 : tie.Need-returns-2
 returns-2 c =
     let arg = c .before .before .before .args .arg in
-    λ s e. as-kind s arg (c .before .if2 .taken) (byte-refused s arg e (c .if3 .taken))
+    λ s e. as-kind s arg (c .before .if2 .taken) (byte-refused s arg e (omega (arith, c .if3 .taken)))
 
 returns-3 : tie.Need-returns-3
 returns-3 c =
@@ -28,7 +28,7 @@ returns-3 c =
 returns-4 : tie.Need-returns-4
 returns-4 c =
     let arg = c .before .before .before .before .args .arg in
-    λ s e. as-kind s arg (c .before .if4 .taken) (fetch-refused s arg e (c .if5 .taken))
+    λ s e. as-kind s arg (c .before .if4 .taken) (fetch-refused s arg e (omega (arith, c .if5 .taken)))
 
 returns-5 : tie.Need-returns-5
 returns-5 c =
@@ -38,7 +38,7 @@ returns-5 c =
 returns-6 : tie.Need-returns-6
 returns-6 c =
     let arg = c .before .before .before .before .before .args .arg in
-    λ s e. as-kind s arg (c .before .if6 .taken) (levels-refused s arg e (c .if7 .taken))
+    λ s e. as-kind s arg (c .before .if6 .taken) (levels-refused s arg e (omega (arith, c .if7 .taken)))
 
 returns-7 : tie.Need-returns-7
 returns-7 c =

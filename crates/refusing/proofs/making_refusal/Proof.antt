@@ -4,12 +4,12 @@ use Rattle.refusing.proofs.making_refusal.Statement.{statement}
 use Rattle.refusing.proofs.making_refusal.Tie as tie
 
 returns : tie.Need-returns
-returns c = choice-over (c .before .args .choice) (c .before .args .levels) (c .if1 .taken)
+returns c = choice-over (c .before .args .choice) (c .before .args .levels) (omega (arith, c .if1 .taken))
 
 returns-2 : tie.Need-returns-2
 returns-2 c =
     let x = c .before .before .args in
-    levels-over (x .choice) (x .levels) (omega (arith, c .before .if1 .left)) (c .if2 .taken)
+    levels-over (x .choice) (x .levels) (omega (arith, c .before .if1 .left)) (omega (arith, c .if2 .taken))
 
 returns-3 : tie.Need-returns-3
 returns-3 c =
