@@ -25,7 +25,7 @@ use Rattle.bus.specs.declared.Answer.the-variants.{Ack, Nak}
 use Rattle.refusals.specs.PowerOn.{powerOn}
 use Rattle.refusals.proofs.Images.{sound-of, known-small}
 use Rattle.demands.specs.Run.{Asked, after}
-use Rattle.demands.proofs.Pinwise.{load-set}
+use Rattle.pinwise.proofs.Pinwise.{load-set}
 
 -- ---- the file, entry by entry
 module _ (p : Part) (file : List ℕ) where

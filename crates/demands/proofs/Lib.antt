@@ -1,4 +1,3 @@
-pub mod Pinwise
 pub mod Machine
 pub mod Keeps
 pub mod Causes

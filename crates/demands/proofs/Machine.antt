@@ -13,15 +13,12 @@ use Rattle.pins.specs.OnePin.Happening.{LevelTo, InputFetched, Reset, Elsewhere
 use Rattle.pins.proofs.AllPins.{pin-map}
 use Rattle.map.specs.Map.{Kind, part24, kindAt, reserved, defaults}
 use Rattle.map.specs.Map.Kind.{Reserved, Input, Status, InputStatus, Configuration, Latch, Mask, PortKind, Edge, Clear, Output, Polarity, PinKind, Stored}
-use Rattle.registers.specs.Registers.{Core, registersAt, onePin, ofPort, writtenTo, writtenAs, written, fetchedAs, fetched, levelled}
+use Rattle.registers.specs.Registers.{Core, registersAt, onePin, ofPort, fetchedAs, fetched, levelled}
+use Rattle.pinwise.proofs.Written.{same-pin, write-pin}
 use Rattle.bus.specs.Device.{State, Event, Bus, Outcome, busAt, number, goes, addressByte, byteIn, fetchIn, resetted, step}
 use Rattle.bus.specs.Device.Bus.{Idle, Opened, Chosen, Filling, Sending, Call, Armed, Deaf}
 use Rattle.bus.specs.Device.Event.{Start, Stop, HardwareReset, ByteSent, ByteFetched, Levels}
 use Rattle.demands.specs.Happens.{sentIn, fetchedIn, happensTo}
-use Rattle.demands.proofs.Pinwise.{registers-written}
-
-same-pin : {a b : OnePin} → a .registers ≡ b .registers → a .pin ≡ b .pin → a ≡ b
-same-pin registers pin = λ j. record { registers = registers j; pin = pin j }
 
 either : (r : Core) (b : Bool) (x y : Outcome) → x .after .regs ≡ r → y .after .regs ≡ r → cond b x y .after .regs ≡ r
 either r true x y p q = p
@@ -79,13 +76,6 @@ module _ (s : State) (i : ℕ) (hi : i < 24) where
   unfolding resetted registersAfter pinAfter
   reset-pin = same-pin (reset-registers i hi) (pin-map 24 (s .regs .sets) (λ i. reset) i hi)
 
-  pub write-pin : length (s .regs .file) ≡ 128 → s .pointer < 128 → (b : ℕ)
-      → P (written part24 (s .regs) (s .pointer) b) ≡ after (writtenTo part24 (kindAt part24 (s .pointer)) (s .pointer) b i) (P (s .regs))
-  unfolding writtenAs
-  write-pin full hn b =
-      same-pin (registers-written (s .regs .file) (s .pointer) b i full hn hi (kindAt part24 (s .pointer)) refl)
-      (pin-map 24 (s .regs .sets) (λ i. pinAfter (writtenTo part24 (kindAt part24 (s .pointer)) (s .pointer) b i) (registersAt part24 (s .regs .file) i)) i hi)
-
   fetch-pin : P (fetched part24 (s .regs) (s .pointer)) ≡ after (fetchedAs part24 (kindAt part24 (s .pointer)) (s .pointer) i) (P (s .regs))
   unfolding fetched
   fetch-pin =
@@ -100,7 +90,7 @@ module _ (s : State) (i : ℕ) (hi : i < 24) where
       stays (either (s .regs) (eqb b (addressByte s)) _ _ refl
       (either (s .regs) (eqb b (addressByte s + 1)) _ _ refl (either (s .regs) (eqb b 0x00) _ _ refl refl)))
   byte-pin full hn Chosen b = stays (either (s .regs) (reserved part24 b) _ _ refl refl)
-  byte-pin full hn Filling b = write-pin full hn b
+  byte-pin full hn Filling b = write-pin (s .regs) i hi full (s .pointer) hn b
   byte-pin full hn Sending b = stays refl
   byte-pin full hn Call b = stays (either (s .regs) (eqb b 0x06) _ _ refl refl)
   byte-pin full hn Armed b = stays refl

@@ -7,4 +7,3 @@ pub mod Theorems
 pub mod Lift
 pub mod Exactly
 pub mod Standing
-pub mod OverBus

@@ -1,6 +1,6 @@
 -- What a list of writes must do on the device: reach the goal, and no pin twitches on the way.
 use mathlib.Core.Bool.{Bool, true}
-use mathlib.Core.List.{List, [], _∷_, _++_}
+use mathlib.Core.List.{List, [], _∷_}
 use mathlib.Core.Logic.{_⊎_}
 use mathlib.Core.Path.{_≡_}
 use Prim.Native.Nat.{ℕ, suc, _/_, _%_, _<_}
@@ -10,8 +10,6 @@ use Rattle.pins.specs.AllPins.{Within}
 use Rattle.pins.specs.OnePin.{driveOf, statusOf}
 use Rattle.map.specs.Map.{part24, fileFits}
 use Rattle.registers.specs.Registers.{Core, onePin, written}
-use Rattle.demands.specs.Run.{Asked}
-use Rattle.demands.specs.Transactions.{writeOver}
 use Rattle.quiet.specs.Settings.{shape24, Settings, PinBits, bitsOf, driveIn, Write, place}
 
 -- what the registers of a list hold
@@ -80,8 +78,3 @@ pub record Formed (s : Core) : Type 0 where
 -- whatever the rest of the state is
 abbrev pub Quiet : (start goal : Settings) → List Write → Type 0
 Quiet start goal ws = (s : Core) → Formed s → settingsOf s ≡ start → QuietOn s goal ws
-
--- the list as transactions on the bus, one a write
-abbrev pub overBus : (choice : ℕ) → List Write → List Asked
-overBus choice [] = []
-overBus choice (w ∷ ws) = writeOver choice (w .register) (w .value) ++ overBus choice ws

@@ -13,9 +13,10 @@ use Rattle.demands.specs.Run.{Asked, after}
 use Rattle.demands.specs.Transactions.{writeOver}
 use Rattle.demands.proofs.Keeps.{WellFormed, run-keeps}
 use Rattle.demands.proofs.Transacting.{bus-write}
 use Rattle.quiet.specs.Settings.{Write}
-use Rattle.quiet.specs.Quiet.{writes, afterFirst, isPlanned, Listed, overBus}
+use Rattle.quiet.specs.Quiet.{writes, afterFirst, isPlanned, Listed}
+use Rattle.overbus.specs.OverBus.{overBus}
 use Rattle.quiet.proofs.Lift.{tens}
 
 -- a run of two lists is the second from where the first leads
 in-turn : (s : State) (es fs : List Asked) → after part24 s (es ++ fs) ≡ after part24 (after part24 s es) fs

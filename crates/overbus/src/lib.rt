@@ -1,0 +1,1 @@
+// The planner's list over the bus: see specs/ and proofs/.

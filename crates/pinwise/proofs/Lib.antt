@@ -1,0 +1,2 @@
+pub mod Pinwise
+pub mod Written

@@ -1,0 +1,1 @@
+// A register write, seen at one pin: see proofs/.
