@@ -18,7 +18,7 @@ pub fn write_latch(file: &[u8; 128], x: Sets, k: u8, v: u8) -> Sets
 {
     let configuration = registers::group(file, 0x0c);
     let latch = registers::group(file, 0x48);
-    pinmarks::write_latch(
+    pinwrites::write_latch(
         x,
         configuration,
         latch,
@@ -33,7 +33,7 @@ pub fn write_configuration(file: &[u8; 128], x: Sets, k: u8, v: u8) -> Sets
         (λ i. pinAfter (cond (inPort k i) (ConfigurationWritten (portBit v i)) Elsewhere) (registersAt part24 (now (file .entry)) i)) ⌝ }
 {
     let configuration = registers::group(file, 0x0c);
-    pinmarks::write_configuration(x, configuration, ports::port_set(k), ports::at_port(v, k))
+    pinwrites::write_configuration(x, configuration, ports::port_set(k), ports::at_port(v, k))
 }
 
 pub fn write_mask(file: &[u8; 128], x: Sets, k: u8, v: u8) -> Sets
@@ -41,7 +41,7 @@ pub fn write_mask(file: &[u8; 128], x: Sets, k: u8, v: u8) -> Sets
     ensures { λ y. ⌜ y ≡ mapPins 24 x
         (λ i. pinAfter (cond (inPort k i) (MaskWritten (portBit v i)) Elsewhere) (registersAt part24 (now (file .entry)) i)) ⌝ }
 {
-    pinmarks::write_mask(x, ports::port_set(k), ports::at_port(v, k))
+    pinwrites::write_mask(x, ports::port_set(k), ports::at_port(v, k))
 }
 
 pub fn write_clear(file: &[u8; 128], x: Sets, k: u8, v: u8) -> Sets
@@ -49,7 +49,7 @@ pub fn write_clear(file: &[u8; 128], x: Sets, k: u8, v: u8) -> Sets
     ensures { λ y. ⌜ y ≡ mapPins 24 x
         (λ i. pinAfter (cond (inPort k i) (ClearWritten (portBit v i)) Elsewhere) (registersAt part24 (now (file .entry)) i)) ⌝ }
 {
-    pinmarks::write_clear(x, ports::port_set(k), ports::at_port(v, k))
+    pinwrites::write_clear(x, ports::port_set(k), ports::at_port(v, k))
 }
 
 pub fn write_edge(file: &[u8; 128], x: Sets, k: u8, v: u8) -> Sets
@@ -57,7 +57,7 @@ pub fn write_edge(file: &[u8; 128], x: Sets, k: u8, v: u8) -> Sets
     ensures { λ y. ⌜ y ≡ mapPins 24 x
         (λ i. pinAfter (cond (inEdge k i) (EdgeWritten (risingBit v i) (fallingBit v i)) Elsewhere) (registersAt part24 (now (file .entry)) i)) ⌝ }
 {
-    pinmarks::write_edge(
+    pinwrites::write_edge(
         x,
         edges::edge_set(k),
         edges::rising_at(v, k),

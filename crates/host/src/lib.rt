@@ -22,11 +22,11 @@ pub extern "C" fn ghixramel_arrays_step(
     ensures { λ r. ⌜ Told (stepped part24 (imageIn (now (pins .entry)) (now (file .entry)) (now (line .entry))) kind argument)
         r (imageIn (now (pins .exit)) (now (file .exit)) (now (line .exit))) (now (told .entry)) (now (told .exit)) ⌝ }
 {
-    let rest = arrays::rest_in(&*pins, &*line);
+    let rest = carrying::rest_in(&*pins, &*line);
     let o = stepping::step(file, rest, kind, argument);
     let answer = o.answer;
-    arrays::keep(o.rest, pins, line);
-    arrays::tell(answer, told)
+    carrying::keep(o.rest, pins, line);
+    carrying::tell(answer, told)
 }
 
 // A device at power-on.
@@ -64,7 +64,7 @@ pub extern "C" fn ghixramel_arrays_drives(
     ensures { λ r. ⌜ Seen (imageIn (now (pins .entry)) (now (file .entry)) (now (line .entry)))
         (drivesOf (imageIn (now (pins .entry)) (now (file .entry)) (now (line .entry)))) r (now (drives .entry)) (now (drives .exit)) ⌝ }
 {
-    let rest = arrays::rest_in(pins, line);
+    let rest = carrying::rest_in(pins, line);
     if refusing::image_fits(file, rest) {
         let low = views::low(file);
         let high = views::high(file);
@@ -85,9 +85,9 @@ pub extern "C" fn ghixramel_arrays_int(
     ensures { λ r. ⌜ Seen (imageIn (now (pins .entry)) (now (file .entry)) (now (line .entry)))
         (intOf (imageIn (now (pins .entry)) (now (file .entry)) (now (line .entry)))) r (now (asserted .entry)) (now (asserted .exit)) ⌝ }
 {
-    let rest = arrays::rest_in(pins, line);
+    let rest = carrying::rest_in(pins, line);
     if refusing::image_fits(file, rest) {
-        *asserted = [arrays::one_if(views::int(file, rest.sets))];
+        *asserted = [carrying::one_if(views::int(file, rest.sets))];
         return 0;
     }
     3
@@ -104,7 +104,7 @@ pub extern "C" fn ghixramel_arrays_show(
 ) -> u32
     ensures { λ r. ⌜ Shown (imageIn (now (pins .entry)) (now (file .entry)) (now (line .entry))) number r (now (byte .entry)) (now (byte .exit)) ⌝ }
 {
-    let rest = arrays::rest_in(pins, line);
+    let rest = carrying::rest_in(pins, line);
     if !refusing::image_fits(file, rest) {
         return 3;
     }
@@ -133,5 +133,5 @@ pub extern "C" fn ghixramel_plan(
     ensures refused { λ r. ⌜ (eqb r 0 ≡ false → now (writes .exit) ≡ now (writes .entry)) ⌝ }
 {
     let planned = planner::plan(start, goal, buffer);
-    arrays::tell_plan(planned, writes)
+    carrying::tell_plan(planned, writes)
 }

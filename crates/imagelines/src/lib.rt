@@ -18,7 +18,7 @@ pub fn answer_line(line: &[u8], out: &mut [u8], at: usize) -> usize
     let s = images::step_in(line);
     let answer = s.answer;
     let after = s.device;
-    images::put_outcome(out, at, after, answer)
+    imagetexts::put_outcome(out, at, after, answer)
 }
 
 // A line that has begun, of which 360 bytes are kept: no longer line is readable.

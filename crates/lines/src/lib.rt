@@ -1,9 +1,9 @@
-// One line of a log: the event it says, or that it is unreadable.
+// What a line of a log can say, and the fields that it says it with.
 ghost use mathlib.Core.Path.{_≡_};
 ghost use Prim.Native.Nat.{_≤_};
 ghost use lib.ListN.{length, drop};
 ghost use Rattle.text.specs.Text.{fieldOf};
-ghost use Rattle.lines.specs.Lines.{lineOf, fieldsOf, eventWith, deviceWith, deviceOf, Small};
+ghost use Rattle.lines.specs.Lines.{eventWith, deviceWith, deviceOf, Small};
 use text::Digits;
 
 // What a line says. Event kinds: 0 START, 1 STOP, 2 byte, 3 fetch, 4 levels, 5 hardware reset.
@@ -41,7 +41,7 @@ fn device_with(choice: Digits, levels: Digits) -> Line
 }
 
 // What follows the word `device`: a choice, a tab and levels.
-fn device_of(s: &[u8]) -> Line
+pub fn device_of(s: &[u8]) -> Line
     ensures { λ r. ⌜ r ≡ deviceOf (now (s .entry)) ⌝ }
 {
     if s.len() < 2 {
@@ -56,47 +56,9 @@ fn device_of(s: &[u8]) -> Line
 }
 
 // An event whose argument stands at this place of the line: so many digits of a number that is most or less.
-fn event_at(line: &[u8], kind: u32, at: usize, count: usize, most: u64) -> Line
+pub fn event_at(line: &[u8], kind: u32, at: usize, count: usize, most: u64) -> Line
     requires { ⌜ (at ≤ length (now line)) × (count ≤ 15) ⌝ }
     ensures { λ r. ⌜ r ≡ eventWith kind (fieldOf count most (drop at (now (line .entry)))) ⌝ }
 {
     event_with(kind, text::field(&line[at..], count, most))
-}
-
-// A line with fields.
-fn read_fields(line: &[u8]) -> Line
-    ensures { λ r. ⌜ r ≡ fieldsOf (now (line .entry)) ⌝ }
-{
-    if text::starts(line, b"byte\t") {
-        return event_at(line, 2, 5, 2, 0xff);
-    }
-    if text::starts(line, b"fetch\t") {
-        return event_at(line, 3, 6, 1, 1);
-    }
-    if text::starts(line, b"pins\t") {
-        return event_at(line, 4, 5, 6, 0xff_ffff);
-    }
-    if text::starts(line, b"device\t") {
-        return device_of(&line[7..]);
-    }
-    Line::Unreadable
-}
-
-// What the line says.
-pub fn read(line: &[u8]) -> Line
-    ensures { λ r. ⌜ r ≡ lineOf (now (line .entry)) ⌝ }
-{
-    if 32 < line.len() {
-        return Line::Unreadable;
-    }
-    if text::is(line, b"start") {
-        return Line::Event { kind: 0, arg: 0 };
-    }
-    if text::is(line, b"stop") {
-        return Line::Event { kind: 1, arg: 0 };
-    }
-    if text::is(line, b"reset") {
-        return Line::Event { kind: 5, arg: 0 };
-    }
-    read_fields(line)
 }

@@ -87,7 +87,7 @@ pub fn answer_line(file: &mut [u8; 128], desk: Desk, line: &[u8], out: &mut [u8]
     requires { ⌜ at + 26 ≤ length (now out) ⌝ }
     ensures { λ r. ⌜ Says (traced (sessionOf (now (file .entry)) desk) (lineOf (now (line .entry)))) (now (out .entry)) at (r .end) (now (out .exit)) (now (file .exit)) (r .desk) ⌝ }
 {
-    let said = lines::read(line);
+    let said = reading::read(line);
     match said {
         Line::Device { choice, levels } => make(file, choice, levels, out, at),
         Line::Event { kind, arg } => event(file, desk, kind, arg, out, at),
