@@ -27,21 +27,20 @@ def image_fields(image):
     return '\t'.join([bytes(image.registers).hex()] + numbers)
 
 
+def answer_to(read, device_class=Device):
+    """The answer line to a line read."""
+    if read is None:
+        return UNREADABLE
+    image, kind, arg = read
+    device = device_class(image)
+    answer = device.step(kind, arg)
+    if isinstance(answer, tuple):
+        return b'refused\t%d\n' % answer[1]
+    return ('%s\t%s\n' % (answer_line(answer, device), image_fields(device.image()))).encode()
+
+
 def run_lines(lines, device_class=Device):
-    out = []
-    for line in split_lines(lines):
-        read = read_line(line)
-        if read is None:
-            out.append(UNREADABLE)
-            continue
-        image, kind, arg = read
-        device = device_class(image)
-        answer = device.step(kind, arg)
-        if isinstance(answer, tuple):
-            out.append(b'refused\t%d\n' % answer[1])
-        else:
-            out.append(('%s\t%s\n' % (answer_line(answer, device), image_fields(device.image()))).encode())
-    return b''.join(out)
+    return b''.join(answer_to(read_line(line), device_class) for line in split_lines(lines))
 
 
 if __name__ == '__main__':

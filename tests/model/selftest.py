@@ -343,37 +343,65 @@ def test_judge_finds_faults():
         assert judge.judge(*ends, 'refused\t4') is not None
 
 
-def whole_search(width, ports, start, goal):
-    """Breadth-first over whole registers, any value at each write, for `ports` ports of `width` pins.
+class WholeSearch:
+    """Searches over whole registers, any value at each write, for `ports` ports of `width` pins.
 
-    A setting is one (outputs, configurations, kinds) a port, then the port bits, all as numbers.
+    A setting is one (outputs, configurations, kinds) a port, then the port bits, all as numbers. A set of settings is a
+    number whose bit n is the setting in place n of `settings`.
     """
 
-    def bits(setting, port, j):
+    def __init__(self, width, ports):
+        self.settings = all_settings(width, ports)
+        self.places = {setting: n for n, setting in enumerate(self.settings)}
+        pins = [(k, j) for k in range(ports) for j in range(width)]
+        # For each setting its pins' four bits, and the set of the settings that one write makes of it.
+        self.bits = [[self.pin_bits(setting, k, j) for k, j in pins] for setting in self.settings]
+        self.written = [self.set_of(self.one_write(setting, width, ports)) for setting in self.settings]
+        # For each pin and each four bits of it the set of the settings in which it has them.
+        self.having = [{} for _ in pins]
+        for n, bits in enumerate(self.bits):
+            for having, own in zip(self.having, bits):
+                having[own] = having.get(own, 0) | 1 << n
+        self.quiet_sets = {}
+
+    @staticmethod
+    def pin_bits(setting, port, j):
         own = setting[3 * port:3 * port + 3]
         return tuple(value >> j & 1 for value in own) + (setting[-1] >> port & 1,)
 
-    ends = [(bits(start, k, j), bits(goal, k, j)) for k in range(ports) for j in range(width)]
+    @staticmethod
+    def one_write(setting, width, ports):
+        for place, size in enumerate([1 << width] * (3 * ports) + [1 << ports]):
+            for value in range(size):
+                yield setting[:place] + (value,) + setting[place + 1:]
 
-    def quiet(before, after):
-        places = ((k, j) for k in range(ports) for j in range(width))
-        return all(judge.move_allowed(*end, bits(before, k, j), bits(after, k, j)) for end, (k, j) in zip(ends, places))
+    def set_of(self, settings):
+        return sum(1 << n for n in {self.places[setting] for setting in settings})
 
-    sizes = [1 << width] * (3 * ports) + [1 << ports]
-    reached, fresh = {start}, [start]
-    while fresh:
-        if goal in reached:
-            return True
-        following = []
-        for before in fresh:
-            for place, size in enumerate(sizes):
-                for value in range(size):
-                    after = before[:place] + (value,) + before[place + 1:]
-                    if after not in reached and quiet(before, after):
-                        reached.add(after)
-                        following.append(after)
-        fresh = following
-    return goal in reached
+    def quiet(self, pin, start, goal):
+        """For each four bits of a pin the set of the settings to which it moves quietly, by its bits at the ends."""
+        if (pin, start, goal) not in self.quiet_sets:
+            having = self.having[pin]
+            self.quiet_sets[pin, start, goal] = {
+                before: sum(having[after] for after in having if judge.move_allowed(start, goal, before, after))
+                for before in having}
+        return self.quiet_sets[pin, start, goal]
+
+    def exists(self, start, goal):
+        """Whether some list of writes, of any length, goes quietly from start to goal."""
+        first, last = self.places[start], self.places[goal]
+        quiet = [self.quiet(pin, *ends) for pin, ends in enumerate(zip(self.bits[first], self.bits[last]))]
+        reached, fresh = 1 << first, [first]
+        while fresh and not reached >> last & 1:
+            before = fresh.pop()
+            following = self.written[before] & ~reached
+            for own, bits in zip(quiet, self.bits[before]):
+                following &= own[bits]
+            reached |= following
+            while following:
+                fresh.append(following.bit_length() - 1)
+                following ^= 1 << fresh[-1]
+        return bool(reached >> last & 1)
 
 
 def by_pins(width, ports, start, goal):
@@ -393,17 +421,17 @@ def all_settings(width, ports):
 
 def test_search_by_pins_is_right():
     """All ports of one and two pins; samples of ports of three pins and of two ports of one pin."""
-    for width in (1, 2):
-        settings = all_settings(width, 1)
-        for start in settings:
-            for goal in settings:
-                assert whole_search(width, 1, start, goal) == by_pins(width, 1, start, goal), (start, goal)
     rng = random.Random(3)
-    for width, ports, count in ((1, 2, 3000), (3, 1, 1000)):
-        settings = all_settings(width, ports)
-        for _ in range(count):
-            start, goal = rng.choice(settings), rng.choice(settings)
-            assert whole_search(width, ports, start, goal) == by_pins(width, ports, start, goal), (start, goal)
+    for width, ports, count in ((1, 1, None), (2, 1, None), (1, 2, 3000), (3, 1, 1000)):
+        search = WholeSearch(width, ports)
+        pairs = ([(start, goal) for start in search.settings for goal in search.settings] if count is None else
+                 [(rng.choice(search.settings), rng.choice(search.settings)) for _ in range(count)])
+        found = set()
+        for start, goal in pairs:
+            possible = search.exists(start, goal)
+            assert possible == by_pins(width, ports, start, goal), (start, goal)
+            found.add(possible)
+        assert found == {False, True}
 
 
 def test_exists_in_one_sentence():

@@ -8,6 +8,9 @@ from device import BYTE, FETCH, LEVELS, RESET, START, STOP, Device
 HEADER = b'answer\tint\tlow\thigh\n'
 UNREADABLE = b'refused\t7\n'
 
+# A line that makes a device, beside the device's own kinds of event.
+NEW = 'device'
+
 # No readable line comes near 32 bytes, so the limit on a line's length needs no test of its own.
 EVENTS = (
     (re.compile(rb'start'), START, None),
@@ -28,13 +31,18 @@ def split_lines(log):
     return lines
 
 
-def read_event(line):
-    """(kind, argument) of an event line, None if unreadable."""
+def read_line(line):
+    """(kind, argument) of an event, (NEW, (choice, levels)) of a device, None if unreadable."""
     for form, kind, base in EVENTS:
         found = form.fullmatch(line)
         if found:
             return kind, int(found.group(1), base) if base else 0
-    return None
+    found = DEVICE.fullmatch(line)
+    return (NEW, (int(found.group(1), 16), int(found.group(2), 16))) if found else None
+
+
+def read_log(log):
+    return [read_line(line) for line in split_lines(log)]
 
 
 def show(answer):
@@ -46,27 +54,28 @@ def answer_line(answer, device):
     return '%s\t%d\t%06x\t%06x' % ((show(answer),) + device.outputs())
 
 
-def run_log(log, device_class=Device):
+def answers(events, device_class=Device):
+    """The answer line to each event of a log read, one by one."""
     device = None
-    out = [HEADER]
-    for line in split_lines(log):
-        found = DEVICE.fullmatch(line)
-        event = read_event(line)
-        if found:
-            made = device_class.make(int(found.group(1), 16), int(found.group(2), 16))
+    for event in events:
+        if event and event[0] == NEW:
+            made = device_class.make(*event[1])
             # A choice over 3 is an unreadable line here, and the old device stays.
             if isinstance(made, tuple):
-                out.append(UNREADABLE)
+                yield UNREADABLE
                 continue
             device = made
             answer = '-'
         elif event and device:
             answer = device.step(*event)
         else:
-            out.append(UNREADABLE)
+            yield UNREADABLE
             continue
-        out.append(answer_line(answer, device).encode() + b'\n')
-    return b''.join(out)
+        yield answer_line(answer, device).encode() + b'\n'
+
+
+def run_log(log, device_class=Device):
+    return HEADER + b''.join(answers(read_log(log), device_class))
 
 
 if __name__ == '__main__':
