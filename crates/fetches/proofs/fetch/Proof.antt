@@ -1,5 +1,5 @@
 use borrow.Author.Needs.{needs}
-use mathlib.Core.Path.{_≡_, _∙_}
+use mathlib.Core.Path.{_≡_, sym, _∙_}
 use Rattle.map.specs.Map.{part24, kindAt}
 use Rattle.map.specs.Map.Kind.{Input}
 use Rattle.map.proofs.Rows.{kind-is}
@@ -18,9 +18,10 @@ fetch-input-requires c κs = search needs
 
 returns : tie.Need-returns
 returns c =
-    let start = c .before .before .before .before in
+    let found = c .before .before .before in
+    let start = found .before in
     let n = start .args .n in
-    let e : kindAt part24 n ≡ Input = kind-is (kindAt part24 n) 1 cc in
+    let e : kindAt part24 n ≡ Input = kind-is (kindAt part24 n) 1 (sym (c .before .before .if1 .taken) ∙ found .kind-of .ensures) in
     input-register (start .args .x) n (start .pre .0) e _ (c .before .port-set .ensures) (c .fetch-input .ensures 24 (start .pre .1))
 
 returns-2 : tie.Need-returns-2
