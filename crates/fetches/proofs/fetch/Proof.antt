@@ -1,9 +1,10 @@
 use borrow.Author.Needs.{needs}
-use mathlib.Core.Path.{_≡_, sym, _∙_}
+use mathlib.Core.Path.{_≡_, _∙_}
 use Rattle.map.specs.Map.{part24, kindAt}
 use Rattle.map.specs.Map.Kind.{Input}
 use Rattle.map.proofs.Rows.{kind-is}
 use Rattle.fetches.proofs.Showing.{other-register, input-register}
+use native.Mathlib.Omega.{arith}
 use Rattle.fetches.proofs.fetch.Statement.{statement}
 use Rattle.fetches.proofs.fetch.Tie as tie
 
@@ -18,10 +19,9 @@ fetch-input-requires c κs = search needs
 
 returns : tie.Need-returns
 returns c =
-    let found = c .before .before .before in
-    let start = found .before in
+    let start = c .before .before .before .before in
     let n = start .args .n in
-    let e : kindAt part24 n ≡ Input = kind-is (kindAt part24 n) 1 (sym (c .before .before .if1 .taken) ∙ found .kind-of .ensures) in
+    let e : kindAt part24 n ≡ Input = kind-is (kindAt part24 n) 1 (omega arith) in
     input-register (start .args .x) n (start .pre .0) e _ (c .before .port-set .ensures) (c .fetch-input .ensures 24 (start .pre .1))
 
 returns-2 : tie.Need-returns-2

@@ -1,5 +1,5 @@
 use borrow.Author.Needs.{needs}
-use mathlib.Core.Path.{_≡_, refl, sym, _∙_}
+use mathlib.Core.Path.{_≡_, refl}
 use Rattle.pins.specs.OnePin.{inputOf, statusOf}
 use Rattle.map.specs.Map.{part24, kindAt, code}
 use Rattle.map.specs.Map.Kind.{Reserved, Input, Status, InputStatus, Clear}
@@ -16,12 +16,11 @@ kind-of-requires c κs = search needs
 returns : tie.Need-returns
 unfolding shownAs
 returns c =
-    let found = c .before .before in
-    let start = found .before in
+    let start = c .before .before .before in
     let x = start .args in
     let n = x .n in
     let s = core (x .file .now) (x .x) in
-    at-kind Clear s n (kind-is (kindAt part24 n) 9 (sym (c .if2 .taken) ∙ found .kind-of .ensures)) refl
+    at-kind Clear s n (kind-is (kindAt part24 n) 9 (omega arith)) refl
 
 element-copy-out-result : tie.Need-element-copy-out-result
 element-copy-out-result c = search needs
@@ -43,12 +42,11 @@ byte-of-requires c κs = search needs
 returns-3 : tie.Need-returns-3
 unfolding shownAs
 returns-3 c =
-    let found = c .before .before .before .before in
-    let start = found .before in
+    let start = c .before .before .before .before .before in
     let x = start .args in
     let n = x .n in
     let s = core (x .file .now) (x .x) in
-    let e : kindAt part24 n ≡ Status = kind-is (kindAt part24 n) 2 (sym (c .before .before .if3 .taken) ∙ found .kind-of .ensures) in
+    let e : kindAt part24 n ≡ Status = kind-is (kindAt part24 n) 2 (omega arith) in
     at-kind Status s n e (show-port Status n _ (λ i. statusOf (onePin part24 s i)) (start .pre) e refl (c .byte-of .ensures) (c .before .statuses .ensures .0))
 
 inputs-requires : tie.Need-inputs-requires
@@ -60,12 +58,11 @@ byte-of-requires-2 c κs = search needs
 returns-4 : tie.Need-returns-4
 unfolding shownAs
 returns-4 c =
-    let found = c .before .before .before .before .before in
-    let start = found .before in
+    let start = c .before .before .before .before .before .before in
     let x = start .args in
     let n = x .n in
     let s = core (x .file .now) (x .x) in
-    let e : kindAt part24 n ≡ Input = kind-is (kindAt part24 n) 1 (sym (c .before .before .if4 .taken) ∙ found .kind-of .ensures) in
+    let e : kindAt part24 n ≡ Input = kind-is (kindAt part24 n) 1 (omega arith) in
     at-kind Input s n e (show-port Input n _ (λ i. inputOf (onePin part24 s i)) (start .pre) e refl (c .byte-of2 .ensures) (c .before .inputs .ensures))
 
 inputs-requires-2 : tie.Need-inputs-requires-2
@@ -77,12 +74,11 @@ byte-of-requires-3 c κs = search needs
 returns-5 : tie.Need-returns-5
 unfolding shownAs
 returns-5 c =
-    let found = c .before .before .before .before .before .before in
-    let start = found .before in
+    let start = c .before .before .before .before .before .before .before in
     let x = start .args in
     let n = x .n in
     let s = core (x .file .now) (x .x) in
-    let e : kindAt part24 n ≡ InputStatus = kind-is (kindAt part24 n) 3 (sym (c .before .before .if5 .taken) ∙ found .kind-of .ensures) in
+    let e : kindAt part24 n ≡ InputStatus = kind-is (kindAt part24 n) 3 (omega arith) in
     at-kind InputStatus s n e (show-port InputStatus n _ (λ i. inputOf (onePin part24 s i)) (start .pre) e refl (c .byte-of3 .ensures) (c .before .inputs2 .ensures))
 
 returns-6 : tie.Need-returns-6

@@ -1,5 +1,5 @@
 use borrow.Author.Needs.{needs}
-use mathlib.Core.Path.{_≡_, refl, sym, _∙_}
+use mathlib.Core.Path.{_≡_, refl}
 use mathlib.Core.Bool.{cond}
 use Rattle.pins.specs.OnePin.Happening.{ClearWritten, MaskWritten, EdgeWritten, LatchWritten, ConfigurationWritten, Elsewhere}
 use Rattle.ports.specs.Ports.{inPort, portBit, inEdge, risingBit, fallingBit}
@@ -30,10 +30,9 @@ element-write-file c = search needs
 returns-2 : tie.Need-returns-2
 unfolding writtenTo
 returns-2 c =
-    let found = c .before .before .before .before in
-    let start = found .before in
+    let start = c .before .before .before .before .before in
     let x = start .args in
-    let e : kindAt part24 (x .n) ≡ Configuration = kind-is (kindAt part24 (x .n)) 4 (sym (c .before .before .if2 .taken) ∙ found .kind-of .ensures) in
+    let e : kindAt part24 (x .n) ≡ Configuration = kind-is (kindAt part24 (x .n)) 4 (omega arith) in
     rule-write (x .file .now) (x .x) (x .n) (x .v) (start .pre .1) Configuration e _ (port-at (x .n) (start .pre .0) Configuration e refl)
     (λ k i. cond (inPort k i) (ConfigurationWritten (portBit (x .v) i)) Elsewhere) (λ i. refl) (c .write-configuration .ensures) refl refl
 
@@ -46,10 +45,9 @@ element-write-file-2 c = search needs
 returns-3 : tie.Need-returns-3
 unfolding writtenTo
 returns-3 c =
-    let found = c .before .before .before .before .before in
-    let start = found .before in
+    let start = c .before .before .before .before .before .before in
     let x = start .args in
-    let e : kindAt part24 (x .n) ≡ Latch = kind-is (kindAt part24 (x .n)) 5 (sym (c .before .before .if3 .taken) ∙ found .kind-of .ensures) in
+    let e : kindAt part24 (x .n) ≡ Latch = kind-is (kindAt part24 (x .n)) 5 (omega arith) in
     rule-write (x .file .now) (x .x) (x .n) (x .v) (start .pre .1) Latch e _ (port-at (x .n) (start .pre .0) Latch e refl)
     (λ k i. cond (inPort k i) (LatchWritten (portBit (x .v) i)) Elsewhere) (λ i. refl) (c .write-latch .ensures) refl refl
 
@@ -62,10 +60,9 @@ element-write-file-3 c = search needs
 returns-4 : tie.Need-returns-4
 unfolding writtenTo
 returns-4 c =
-    let found = c .before .before .before .before .before .before in
-    let start = found .before in
+    let start = c .before .before .before .before .before .before .before in
     let x = start .args in
-    let e : kindAt part24 (x .n) ≡ Mask = kind-is (kindAt part24 (x .n)) 6 (sym (c .before .before .if4 .taken) ∙ found .kind-of .ensures) in
+    let e : kindAt part24 (x .n) ≡ Mask = kind-is (kindAt part24 (x .n)) 6 (omega arith) in
     rule-write (x .file .now) (x .x) (x .n) (x .v) (start .pre .1) Mask e _ (port-at (x .n) (start .pre .0) Mask e refl)
     (λ k i. cond (inPort k i) (MaskWritten (portBit (x .v) i)) Elsewhere) (λ i. refl) (c .write-mask .ensures) refl refl
 
@@ -74,10 +71,9 @@ element-write-file-4 c = search needs
 
 returns-5 : tie.Need-returns-5
 returns-5 c =
-    let found = c .before .before .before .before .before in
-    let start = found .before in
+    let start = c .before .before .before .before .before .before in
     let x = start .args in
-    kind-write (x .file .now) (x .x) (x .n) (x .v) (start .pre .1) (kind-is (kindAt part24 (x .n)) 7 (sym (c .if5 .taken) ∙ found .kind-of .ensures))
+    kind-write (x .file .now) (x .x) (x .n) (x .v) (start .pre .1) (kind-is (kindAt part24 (x .n)) 7 (omega arith))
 
 write-edge-requires : tie.Need-write-edge-requires
 write-edge-requires c κs = search needs
@@ -88,10 +84,9 @@ element-write-file-5 c = search needs
 returns-6 : tie.Need-returns-6
 unfolding writtenTo
 returns-6 c =
-    let found = c .before .before .before .before .before .before .before .before in
-    let start = found .before in
+    let start = c .before .before .before .before .before .before .before .before .before in
     let x = start .args in
-    let e : kindAt part24 (x .n) ≡ Edge = kind-is (kindAt part24 (x .n)) 8 (sym (c .before .before .if6 .taken) ∙ found .kind-of .ensures) in
+    let e : kindAt part24 (x .n) ≡ Edge = kind-is (kindAt part24 (x .n)) 8 (omega arith) in
     rule-write (x .file .now) (x .x) (x .n) (x .v) (start .pre .1) Edge e _ (edge-at (x .n) (start .pre .0) e)
     (λ k i. cond (inEdge k i) (EdgeWritten (risingBit (x .v) i) (fallingBit (x .v) i)) Elsewhere) (λ i. refl) (c .write-edge .ensures) refl refl
 
@@ -101,10 +96,9 @@ write-clear-requires c κs = search needs
 returns-7 : tie.Need-returns-7
 unfolding writtenTo
 returns-7 c =
-    let found = c .before .before .before .before .before .before .before .before .before in
-    let start = found .before in
+    let start = c .before .before .before .before .before .before .before .before .before .before in
     let x = start .args in
-    let e : kindAt part24 (x .n) ≡ Clear = kind-is (kindAt part24 (x .n)) 9 (sym (c .before .before .if7 .taken) ∙ found .kind-of .ensures) in
+    let e : kindAt part24 (x .n) ≡ Clear = kind-is (kindAt part24 (x .n)) 9 (omega arith) in
     unstored-write (x .file .now) (x .x) (x .n) (x .v) (start .pre .1) Clear e _ (port-at (x .n) (start .pre .0) Clear e refl)
     (λ k i. cond (inPort k i) (ClearWritten (portBit (x .v) i)) Elsewhere) (λ i. refl) (c .write-clear .ensures) refl
 
