@@ -1,5 +1,5 @@
 use borrow.Author.Needs.{needs}
-use mathlib.Core.Path.{refl}
+use mathlib.Core.Path.{refl, ap}
 use mathlib.Core.Bool.{_&&_}
 use Rattle.pins.specs.Pin.{clearWritten}
 use Rattle.pins.specs.OnePin.{pinAfter}
@@ -26,7 +26,7 @@ returns c =
     let start = c .before .before .before in
     let x = start .args in
     by-rule (x .x) (registersAt part24 (x .file .now)) (inPort (x .k)) (λ i t. clearWritten (t && portBit (x .v) i)) _ (λ i. ClearWritten (portBit (x .v) i)) _
-    (c .before .before .port-set .ensures) (λ i h. cc (c .before .at-port .ensures i)) (λ i p. refl) (c .write-clear .ensures 24 (start .pre .1))
+    (c .before .before .port-set .ensures) (λ i h. ap clearWritten (c .before .at-port .ensures i)) (λ i p. refl) (c .write-clear .ensures 24 (start .pre .1))
 
 pub write-clear-spec : {M : Type 1} → statement M
 write-clear-spec =

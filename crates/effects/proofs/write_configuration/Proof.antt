@@ -1,5 +1,5 @@
 use borrow.Author.Needs.{needs}
-use mathlib.Core.Path.{refl}
+use mathlib.Core.Path.{refl, ap₂}
 use mathlib.Core.Bool.{_&&_}
 use Rattle.pins.specs.Pin.{configurationWritten}
 use Rattle.pins.specs.OnePin.{pinAfter}
@@ -31,7 +31,7 @@ returns c =
     let x = start .args in
     by-rule (x .x) (registersAt part24 (x .file .now)) (inPort (x .k))
     (λ i t. configurationWritten (groupBit part24 (x .file .now) Configuration i) (t && portBit (x .v) i)) _ (λ i. ConfigurationWritten (portBit (x .v) i)) _
-    (c .before .before .port-set .ensures) (λ i h. cc (c .before .at-port .ensures i, c .before .before .before .group .ensures .0 i h))
+    (c .before .before .port-set .ensures) (λ i h. ap₂ configurationWritten (c .before .before .before .group .ensures .0 i h) (c .before .at-port .ensures i))
     (λ i p. refl) (c .write-configuration .ensures 24 (start .pre .1))
 
 pub write-configuration-spec : {M : Type 1} → statement M

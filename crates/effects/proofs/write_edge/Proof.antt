@@ -1,5 +1,5 @@
 use borrow.Author.Needs.{needs}
-use mathlib.Core.Path.{refl}
+use mathlib.Core.Path.{refl, ap₂}
 use mathlib.Core.Bool.{_&&_}
 use Rattle.pins.specs.Pin.{edgeWritten}
 use Rattle.pins.specs.OnePin.{pinAfter}
@@ -30,7 +30,7 @@ returns c =
     let x = start .args in
     by-rule (x .x) (registersAt part24 (x .file .now)) (inEdge (x .k)) (λ i t. edgeWritten (t && risingBit (x .v) i) (t && fallingBit (x .v) i)) _
     (λ i. EdgeWritten (risingBit (x .v) i) (fallingBit (x .v) i)) _
-    (c .before .before .before .edge-set .ensures) (λ i h. cc (c .before .falling-at .ensures i, c .before .before .rising-at .ensures i))
+    (c .before .before .before .edge-set .ensures) (λ i h. ap₂ edgeWritten (c .before .before .rising-at .ensures i) (c .before .falling-at .ensures i))
     (λ i p. refl) (c .write-edge .ensures 24 (start .pre .1))
 
 pub write-edge-spec : {M : Type 1} → statement M

@@ -36,7 +36,7 @@ returns c =
     (λ i t. latchWritten (groupBit part24 (x .file .now) Configuration i) (groupBit part24 (x .file .now) Latch i) (t && portBit (x .v) i)) _
     (λ i. LatchWritten (portBit (x .v) i)) _
     (c .before .before .port-set .ensures)
-    (λ i h. cc (c .before .at-port .ensures i, c .before .before .before .group2 .ensures .0 i h, c .before .before .before .before .group .ensures .0 i h))
+    (λ i h j. latchWritten (c .before .before .before .before .group .ensures .0 i h j) (c .before .before .before .group2 .ensures .0 i h j) (c .before .at-port .ensures i j))
     (λ i p. refl) (c .write-latch .ensures 24 (start .pre .1))
 
 pub write-latch-spec : {M : Type 1} → statement M

@@ -1,5 +1,5 @@
 use borrow.Author.Needs.{needs}
-use mathlib.Core.Path.{refl}
+use mathlib.Core.Path.{refl, ap}
 use mathlib.Core.Bool.{_&&_}
 use Rattle.pins.specs.Pin.{maskWritten}
 use Rattle.pins.specs.OnePin.{pinAfter}
@@ -26,7 +26,7 @@ returns c =
     let start = c .before .before .before in
     let x = start .args in
     by-rule (x .x) (registersAt part24 (x .file .now)) (inPort (x .k)) (λ i t. maskWritten (t && portBit (x .v) i)) _ (λ i. MaskWritten (portBit (x .v) i)) _
-    (c .before .before .port-set .ensures) (λ i h. cc (c .before .at-port .ensures i)) (λ i p. refl) (c .write-mask .ensures 24 (start .pre .1))
+    (c .before .before .port-set .ensures) (λ i h. ap maskWritten (c .before .at-port .ensures i)) (λ i p. refl) (c .write-mask .ensures 24 (start .pre .1))
 
 pub write-mask-spec : {M : Type 1} → statement M
 write-mask-spec =

@@ -4,6 +4,7 @@ use Rattle.map.specs.Map.{part24, kindAt}
 use Rattle.map.specs.Map.Kind.{Input}
 use Rattle.map.proofs.Rows.{kind-is}
 use Rattle.fetches.proofs.Showing.{other-register, input-register}
+use native.Mathlib.Omega.{arith}
 use Rattle.fetches.proofs.fetch.Statement.{statement}
 use Rattle.fetches.proofs.fetch.Tie as tie
 
@@ -20,7 +21,7 @@ returns : tie.Need-returns
 returns c =
     let start = c .before .before .before .before in
     let n = start .args .n in
-    let e : kindAt part24 n ≡ Input = kind-is (kindAt part24 n) 1 cc in
+    let e : kindAt part24 n ≡ Input = kind-is (kindAt part24 n) 1 (omega arith) in
     input-register (start .args .x) n (start .pre .0) e _ (c .before .port-set .ensures) (c .fetch-input .ensures 24 (start .pre .1))
 
 returns-2 : tie.Need-returns-2

@@ -20,7 +20,7 @@ returns c =
     let x = start .args in
     let n = x .n in
     let s = core (x .file .now) (x .x) in
-    at-kind Clear s n (kind-is (kindAt part24 n) 9 cc) refl
+    at-kind Clear s n (kind-is (kindAt part24 n) 9 (omega arith)) refl
 
 element-copy-out-result : tie.Need-element-copy-out-result
 element-copy-out-result c = search needs
@@ -46,7 +46,7 @@ returns-3 c =
     let x = start .args in
     let n = x .n in
     let s = core (x .file .now) (x .x) in
-    let e : kindAt part24 n ≡ Status = kind-is (kindAt part24 n) 2 cc in
+    let e : kindAt part24 n ≡ Status = kind-is (kindAt part24 n) 2 (omega arith) in
     at-kind Status s n e (show-port Status n _ (λ i. statusOf (onePin part24 s i)) (start .pre) e refl (c .byte-of .ensures) (c .before .statuses .ensures .0))
 
 inputs-requires : tie.Need-inputs-requires
@@ -62,7 +62,7 @@ returns-4 c =
     let x = start .args in
     let n = x .n in
     let s = core (x .file .now) (x .x) in
-    let e : kindAt part24 n ≡ Input = kind-is (kindAt part24 n) 1 cc in
+    let e : kindAt part24 n ≡ Input = kind-is (kindAt part24 n) 1 (omega arith) in
     at-kind Input s n e (show-port Input n _ (λ i. inputOf (onePin part24 s i)) (start .pre) e refl (c .byte-of2 .ensures) (c .before .inputs .ensures))
 
 inputs-requires-2 : tie.Need-inputs-requires-2
@@ -78,7 +78,7 @@ returns-5 c =
     let x = start .args in
     let n = x .n in
     let s = core (x .file .now) (x .x) in
-    let e : kindAt part24 n ≡ InputStatus = kind-is (kindAt part24 n) 3 cc in
+    let e : kindAt part24 n ≡ InputStatus = kind-is (kindAt part24 n) 3 (omega arith) in
     at-kind InputStatus s n e (show-port InputStatus n _ (λ i. inputOf (onePin part24 s i)) (start .pre) e refl (c .byte-of3 .ensures) (c .before .inputs2 .ensures))
 
 returns-6 : tie.Need-returns-6

@@ -1,4 +1,5 @@
 use borrow.Author.Needs.{needs}
+use mathlib.Core.List.{[], _∷_}
 use Rattle.text.specs.Text.{hexText}
 use Rattle.text.proofs.hex6.Statement.{statement}
 use Rattle.text.proofs.hex6.Tie as tie
@@ -23,7 +24,16 @@ low-digit-requires-6 c κs = search needs
 
 returns : tie.Need-returns
 unfolding hexText
-returns c = cc
+returns c =
+    let third = c .before .before .before in
+    λ j.
+    third .before .before .low-digit .ensures j
+    ∷ third .before .low-digit2 .ensures j
+    ∷ third .low-digit3 .ensures j
+    ∷ c .before .before .low-digit4 .ensures j
+    ∷ c .before .low-digit5 .ensures j
+    ∷ c .low-digit6 .ensures j
+    ∷ []
 
 pub hex6-spec : {M : Type 1} → statement M
 hex6-spec =

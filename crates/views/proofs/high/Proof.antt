@@ -1,5 +1,7 @@
 use borrow.Author.Needs.{needs}
+use mathlib.Core.Path.{_∙_}
 use Rattle.bits.proofs.Laws.{tabulated}
+use Rattle.pins.specs.Pin.{drive, isHigh}
 use Rattle.registers.specs.Registers.{drivenHigh}
 use Rattle.views.proofs.high.Statement.{statement}
 use Rattle.views.proofs.high.Tie as tie
@@ -25,13 +27,13 @@ returns c =
     let kinds = c .before in
     let g = kinds .before in
     λ x. tabulated 24 (c .driven-high .ensures .small 24 (g .before .group2 .ensures .1)) (λ i h.
-    cc (
-      c .driven-high .ensures .pins i,
-      kinds .port-kinds .ensures i h,
-      g .group3 .ensures .0 i h,
-      g .before .group2 .ensures .0 i h,
-      g .before .before .group .ensures .0 i h,
-    ))
+    c .driven-high .ensures .pins i
+    ∙ (λ j. isHigh
+    (drive
+    (g .before .before .group .ensures .0 i h j)
+    (g .before .group2 .ensures .0 i h j)
+    (kinds .port-kinds .ensures i h j)
+    (g .group3 .ensures .0 i h j))))
 
 pub high-spec : {M : Type 1} → statement M
 high-spec =

@@ -1,4 +1,6 @@
 use borrow.Author.Needs.{needs}
+use Rattle.pins.specs.AllPins.{pinAt}
+use Rattle.views.proofs.Showing.{input-of-read}
 use Rattle.views.proofs.inputs.Statement.{statement}
 use Rattle.views.proofs.inputs.Tie as tie
 
@@ -24,15 +26,16 @@ returns : tie.Need-returns
 returns c =
     let kinds = c .before in
     let g = kinds .before in
+    let x = g .before .before .before .before .args .x in
     λ i h.
-    cc (
-      c .input-bits .ensures i,
-      kinds .port-kinds .ensures i h,
-      g .group4 .ensures .0 i h,
-      g .before .group3 .ensures .0 i h,
-      g .before .before .group2 .ensures .0 i h,
-      g .before .before .before .group .ensures .0 i h,
-    )
+    input-of-read
+    (pinAt x i)
+    (c .input-bits .ensures i)
+    (g .before .before .before .group .ensures .0 i h)
+    (g .before .before .group2 .ensures .0 i h)
+    (g .before .group3 .ensures .0 i h)
+    (kinds .port-kinds .ensures i h)
+    (g .group4 .ensures .0 i h)
 
 pub inputs-spec : {M : Type 1} → statement M
 inputs-spec =

@@ -1,5 +1,6 @@
 use borrow.Author.Needs.{needs}
-use mathlib.Core.Bool.{false}
+use mathlib.Core.Path.{_∙_}
+use mathlib.Core.Bool.{false, _&&_}
 use Prim.Native.Nat.{_/_}
 use lib.ListN.{getD}
 use lib.Pow.{ones-lt}
@@ -9,7 +10,6 @@ use Rattle.pins.specs.Pin.{drive, isLow}
 use Rattle.map.specs.Map.{part24}
 use Rattle.map.specs.Map.Kind.{PinKind}
 use Rattle.registers.specs.Registers.{groupBit, drivenLow}
-use Rattle.views.proofs.Showing.{and-true}
 use Rattle.views.proofs.low.Statement.{statement}
 use Rattle.views.proofs.low.Tie as tie
 
@@ -31,12 +31,8 @@ returns c =
     λ x. tabulated 24 (c .driven-low .ensures false false .small 24 (ones-lt 24)) (λ i h.
     let portKind = bit (getD file 0x5c 0) (i / 8) in
     let pinKind = groupBit part24 file PinKind i in
-    cc (
-      c .driven-low .ensures portKind pinKind .pins i,
-      and-true (bit 0xff_ffff i) (isLow (drive (bit (conf .result) i) (bit (out .result) i) portKind pinKind)) (bit-ones 24 i h),
-      conf .ensures .0 i h,
-      out .ensures .0 i h,
-    ))
+    c .driven-low .ensures portKind pinKind .pins i
+    ∙ (λ j. bit-ones 24 i h j && isLow (drive (conf .ensures .0 i h j) (out .ensures .0 i h j) portKind pinKind)))
 
 pub low-spec : {M : Type 1} → statement M
 low-spec = tie.close (tie.spec group-requires group-requires-2 driven-low-requires returns)

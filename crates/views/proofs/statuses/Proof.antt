@@ -1,6 +1,7 @@
 use borrow.Author.Needs.{needs}
 use mathlib.Core.Path.{_∙_}
 use Rattle.bits.proofs.Laws.{bit-zero}
+use Rattle.pins.specs.Pin.{source, status}
 use Rattle.pins.specs.AllPins.{pinAt}
 use Rattle.ports.specs.Ports.{risingBit, fallingBit}
 use Rattle.map.specs.Map.{part24}
@@ -32,14 +33,15 @@ returns c =
     let x = latch .before .before .before .args in
     let file = x .file .now in (
       λ i h.
-          cc (
-            c .status-bits .ensures .pins i,
-            bit-zero i,
-            edged .edged .ensures i h,
-            latch .group3 .ensures .0 i h,
-            latch .before .group2 .ensures .0 i h,
-            latch .before .before .group .ensures .0 i h,
-          )
+          c .status-bits .ensures .pins i
+          ∙ (λ j. status
+          (source
+          (latch .before .before .group .ensures .0 i h j)
+          (latch .before .group2 .ensures .0 i h j)
+          (latch .group3 .ensures .0 i h j)
+          (edged .edged .ensures i h j)
+          (bit-zero i j))
+          (pinAt (x .x) i))
           ∙ asked-status (groupBit part24 file Configuration i) (groupBit part24 file Mask i) (groupBit part24 file Latch i)
           (risingBit (edgeByte part24 file i) i) (fallingBit (edgeByte part24 file i) i) (pinAt (x .x) i),
       c .status-bits .ensures .small 24 (latch .before .before .group .ensures .1),

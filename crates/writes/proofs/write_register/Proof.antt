@@ -32,7 +32,7 @@ unfolding writtenTo
 returns-2 c =
     let start = c .before .before .before .before .before in
     let x = start .args in
-    let e : kindAt part24 (x .n) ≡ Configuration = kind-is (kindAt part24 (x .n)) 4 cc in
+    let e : kindAt part24 (x .n) ≡ Configuration = kind-is (kindAt part24 (x .n)) 4 (omega arith) in
     rule-write (x .file .now) (x .x) (x .n) (x .v) (start .pre .1) Configuration e _ (port-at (x .n) (start .pre .0) Configuration e refl)
     (λ k i. cond (inPort k i) (ConfigurationWritten (portBit (x .v) i)) Elsewhere) (λ i. refl) (c .write-configuration .ensures) refl refl
 
@@ -47,7 +47,7 @@ unfolding writtenTo
 returns-3 c =
     let start = c .before .before .before .before .before .before in
     let x = start .args in
-    let e : kindAt part24 (x .n) ≡ Latch = kind-is (kindAt part24 (x .n)) 5 cc in
+    let e : kindAt part24 (x .n) ≡ Latch = kind-is (kindAt part24 (x .n)) 5 (omega arith) in
     rule-write (x .file .now) (x .x) (x .n) (x .v) (start .pre .1) Latch e _ (port-at (x .n) (start .pre .0) Latch e refl)
     (λ k i. cond (inPort k i) (LatchWritten (portBit (x .v) i)) Elsewhere) (λ i. refl) (c .write-latch .ensures) refl refl
 
@@ -62,7 +62,7 @@ unfolding writtenTo
 returns-4 c =
     let start = c .before .before .before .before .before .before .before in
     let x = start .args in
-    let e : kindAt part24 (x .n) ≡ Mask = kind-is (kindAt part24 (x .n)) 6 cc in
+    let e : kindAt part24 (x .n) ≡ Mask = kind-is (kindAt part24 (x .n)) 6 (omega arith) in
     rule-write (x .file .now) (x .x) (x .n) (x .v) (start .pre .1) Mask e _ (port-at (x .n) (start .pre .0) Mask e refl)
     (λ k i. cond (inPort k i) (MaskWritten (portBit (x .v) i)) Elsewhere) (λ i. refl) (c .write-mask .ensures) refl refl
 
@@ -73,7 +73,7 @@ returns-5 : tie.Need-returns-5
 returns-5 c =
     let start = c .before .before .before .before .before .before in
     let x = start .args in
-    kind-write (x .file .now) (x .x) (x .n) (x .v) (start .pre .1) (kind-is (kindAt part24 (x .n)) 7 cc)
+    kind-write (x .file .now) (x .x) (x .n) (x .v) (start .pre .1) (kind-is (kindAt part24 (x .n)) 7 (omega arith))
 
 write-edge-requires : tie.Need-write-edge-requires
 write-edge-requires c κs = search needs
@@ -86,7 +86,7 @@ unfolding writtenTo
 returns-6 c =
     let start = c .before .before .before .before .before .before .before .before .before in
     let x = start .args in
-    let e : kindAt part24 (x .n) ≡ Edge = kind-is (kindAt part24 (x .n)) 8 cc in
+    let e : kindAt part24 (x .n) ≡ Edge = kind-is (kindAt part24 (x .n)) 8 (omega arith) in
     rule-write (x .file .now) (x .x) (x .n) (x .v) (start .pre .1) Edge e _ (edge-at (x .n) (start .pre .0) e)
     (λ k i. cond (inEdge k i) (EdgeWritten (risingBit (x .v) i) (fallingBit (x .v) i)) Elsewhere) (λ i. refl) (c .write-edge .ensures) refl refl
 
@@ -98,7 +98,7 @@ unfolding writtenTo
 returns-7 c =
     let start = c .before .before .before .before .before .before .before .before .before .before in
     let x = start .args in
-    let e : kindAt part24 (x .n) ≡ Clear = kind-is (kindAt part24 (x .n)) 9 cc in
+    let e : kindAt part24 (x .n) ≡ Clear = kind-is (kindAt part24 (x .n)) 9 (omega arith) in
     unstored-write (x .file .now) (x .x) (x .n) (x .v) (start .pre .1) Clear e _ (port-at (x .n) (start .pre .0) Clear e refl)
     (λ k i. cond (inPort k i) (ClearWritten (portBit (x .v) i)) Elsewhere) (λ i. refl) (c .write-clear .ensures) refl
 
