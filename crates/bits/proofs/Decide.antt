@@ -1,6 +1,6 @@
 -- Deciders: what can be tried at every value is proved by computing the trial. Assumes nothing.
 use mathlib.Core.Path.{_≡_, refl, ap, sym, _∙_}
-use mathlib.Core.Bool.{Bool, true, false, _&&_, Bool·beq}
+use mathlib.Core.Bool.{Bool, true, false, cond, _&&_, Bool·beq}
 use Prim.Native.Nat.{ℕ, zero, suc, _+_, _<_}
 use native.Mathlib.Omega.{arith}
 use lib.Dec.{T, eqb, eqb→eq}
@@ -27,6 +27,11 @@ and-left false b e = e
 pub and-right : (a b : Bool) → (a && b) ≡ true → b ≡ true
 and-right true b e = e
 and-right false b e = clash false e refl
+
+-- what holds of both arms holds of the choice
+pub either-arm : {A : Type 0} (P : A → Type 0) (t : Bool) {x y : A} → P x → P y → P (cond t x y)
+either-arm P true p q = p
+either-arm P false p q = q
 
 -- functions of n Bools, to any type whose equality is computed
 abbrev pub Fn : Type 0 → ℕ → Type 0

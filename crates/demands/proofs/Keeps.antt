@@ -9,7 +9,7 @@ use borrow.Author.Tests.{lt-ltb, eqb-true, not-true}
 use lib.Dec.{eqb}
 use lib.ListN.{length, getD, set, length-set}
 use lib.Pow.{pow-pos}
-use Rattle.bits.proofs.Decide.{eachBool, clash, and-left, and-right}
+use Rattle.bits.proofs.Decide.{eachBool, clash, and-left, and-right, either-arm}
 use Rattle.pins.specs.AllPins.{Within}
 use Rattle.pins.specs.declared.Sets.{Sets}
 use Rattle.pins.proofs.AllPins.{map-within}
@@ -236,18 +236,17 @@ module _ (s : State) (g : WellFormed s) where
     full = g .full;
   }
 
-  either : (b : Bool) (x y : Outcome) → WellFormed (x .after) → WellFormed (y .after) → WellFormed (cond b x y .after)
-  either true x y p q = p
-  either false x y p q = q
+  abbrev Kept : Outcome → Type 0
+  Kept o = WellFormed (o .after)
 
   byte-keeps : (k : Bus) (b : ℕ) → WellFormed (byteIn part24 k s b .after)
   unfolding byteIn
   byte-keeps Idle b = g
-  byte-keeps Opened b = either (eqb b (addressByte s)) _ _ (to Chosen) (either (eqb b (addressByte s + 1)) _ _ (to Sending) (either (eqb b 0x00) _ _ (to Call) (to Deaf)))
+  byte-keeps Opened b = either-arm Kept (eqb b (addressByte s)) (to Chosen) (either-arm Kept (eqb b (addressByte s + 1)) (to Sending) (either-arm Kept (eqb b 0x00) (to Call) (to Deaf)))
   byte-keeps Chosen b = point-keeps b (reserved part24 b) refl
   byte-keeps Filling b = fill-keeps b
   byte-keeps Sending b = to Deaf
-  byte-keeps Call b = either (eqb b 0x06) _ _ (to Armed) (to Deaf)
+  byte-keeps Call b = either-arm Kept (eqb b 0x06) (to Armed) (to Deaf)
   byte-keeps Armed b = to Deaf
   byte-keeps Deaf b = g
 
@@ -278,7 +277,7 @@ module _ (s : State) (g : WellFormed s) where
   -- refused or not
   pub stepped-keeps : (kind arg : ℕ) → WellFormed (stepped part24 s kind arg .after)
   unfolding stepped
-  stepped-keeps kind arg = either (eqb (refusal part24 s kind arg) 0) _ _ (step-keeps (eventOf kind arg)) g
+  stepped-keeps kind arg = either-arm Kept (eqb (refusal part24 s kind arg) 0) (step-keeps (eventOf kind arg)) g
 
 -- ---- power-on, and runs from it
 pub power-on-fits : (choice levels : ℕ) → choice < 4 → levels < 2 ^ 24 → WellFormed (powerOn part24 choice levels)

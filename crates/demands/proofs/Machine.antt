@@ -4,7 +4,7 @@ use mathlib.Core.Bool.{Bool, true, false, cond}
 use Prim.Native.Nat.{ℕ, _+_, _<_}
 use lib.Dec.{eqb}
 use lib.ListN.{length}
-use Rattle.bits.proofs.Decide.{eachBool}
+use Rattle.bits.proofs.Decide.{eachBool, either-arm}
 use Rattle.bits.specs.Bits.{bit}
 use Rattle.pins.specs.Pin.{reset}
 use Rattle.pins.specs.OnePin.{OnePin, Registers, after, registersAfter, pinAfter}
@@ -19,10 +19,6 @@ use Rattle.bus.specs.Device.{State, Event, Bus, Outcome, busAt, number, goes, a
 use Rattle.bus.specs.Device.Bus.{Idle, Opened, Chosen, Filling, Sending, Call, Armed, Deaf}
 use Rattle.bus.specs.Device.Event.{Start, Stop, HardwareReset, ByteSent, ByteFetched, Levels}
 use Rattle.demands.specs.Happens.{sentIn, fetchedIn, happensTo}
-
-either : (r : Core) (b : Bool) (x y : Outcome) → x .after .regs ≡ r → y .after .regs ≡ r → cond b x y .after .regs ≡ r
-either r true x y p q = p
-either r false x y p q = q
 
 -- a fetch changes no register
 fetch-registers : (k : Kind) (n i : ℕ) (v : Registers) → registersAfter (fetchedAs part24 k n i) v ≡ v
@@ -67,6 +63,9 @@ module _ (s : State) (i : ℕ) (hi : i < 24) where
   abbrev P : Core → OnePin
   P r = onePin part24 r i
 
+  abbrev Same : Outcome → Type 0
+  Same o = o .after .regs ≡ s .regs
+
   -- where registers and pins stay, nothing happens to the pin
   stays : {r : Core} → r ≡ s .regs → P r ≡ after Elsewhere (P (s .regs))
   unfolding registersAfter pinAfter
@@ -87,12 +86,12 @@ module _ (s : State) (i : ℕ) (hi : i < 24) where
   unfolding byteIn sentIn
   byte-pin full hn Idle b = stays refl
   byte-pin full hn Opened b =
-      stays (either (s .regs) (eqb b (addressByte s)) _ _ refl
-      (either (s .regs) (eqb b (addressByte s + 1)) _ _ refl (either (s .regs) (eqb b 0x00) _ _ refl refl)))
-  byte-pin full hn Chosen b = stays (either (s .regs) (reserved part24 b) _ _ refl refl)
+      stays (either-arm Same (eqb b (addressByte s)) refl
+      (either-arm Same (eqb b (addressByte s + 1)) refl (either-arm Same (eqb b 0x00) refl refl)))
+  byte-pin full hn Chosen b = stays (either-arm Same (reserved part24 b) refl refl)
   byte-pin full hn Filling b = write-pin (s .regs) i hi full (s .pointer) hn b
   byte-pin full hn Sending b = stays refl
-  byte-pin full hn Call b = stays (either (s .regs) (eqb b 0x06) _ _ refl refl)
+  byte-pin full hn Call b = stays (either-arm Same (eqb b 0x06) refl refl)
   byte-pin full hn Armed b = stays refl
   byte-pin full hn Deaf b = stays refl
 

@@ -4,6 +4,7 @@ use mathlib.Core.Bool.{Bool, true, false, cond, not, _&&_}
 use mathlib.Core.List.{List, [], _∷_}
 use Prim.Native.Nat.{ℕ, _+_, _^_, _<_}
 use lib.Dec.{eqb, leb}
+use Rattle.bits.proofs.Decide.{either-arm}
 use Rattle.map.specs.Map.{part24, reserved}
 use Rattle.registers.specs.Registers.{drivenLow, drivenHigh, intAsserted}
 use Rattle.bus.specs.Device.{State, Event, Bus, Outcome, busAt, out, addressByte, byteIn, fetchIn, step}
@@ -24,18 +25,14 @@ use Rattle.demands.proofs.Keeps.{WellFormed, image-of, stepped-keeps, p
 abbrev Answers : Outcome → Type 0
 Answers o = refusalNumber (o .answer) ≡ 0
 
-either : (b : Bool) (x y : Outcome) → Answers x → Answers y → Answers (cond b x y)
-either true x y p q = p
-either false x y p q = q
-
 byte-answers : (k : Bus) (s : State) (b : ℕ) → Answers (byteIn part24 k s b)
 unfolding byteIn
 byte-answers Idle s b = refl
-byte-answers Opened s b = either (eqb b (addressByte s)) _ _ refl (either (eqb b (addressByte s + 1)) _ _ refl (either (eqb b 0x00) _ _ refl refl))
-byte-answers Chosen s b = either (reserved part24 b) _ _ refl refl
+byte-answers Opened s b = either-arm Answers (eqb b (addressByte s)) refl (either-arm Answers (eqb b (addressByte s + 1)) refl (either-arm Answers (eqb b 0x00) refl refl))
+byte-answers Chosen s b = either-arm Answers (reserved part24 b) refl refl
 byte-answers Filling s b = refl
 byte-answers Sending s b = refl
-byte-answers Call s b = either (eqb b 0x06) _ _ refl refl
+byte-answers Call s b = either-arm Answers (eqb b 0x06) refl refl
 byte-answers Armed s b = refl
 byte-answers Deaf s b = refl
 

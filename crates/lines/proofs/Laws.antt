@@ -8,12 +8,11 @@ use lib.Dec.{eqb, leb, ltb}
 use lib.ListN.{length, take, drop, length-drop}
 use lib.Seq.{take-all}
 use borrow.Author.Tests.{leb-true, le-ltb}
-use Rattle.bits.proofs.Decide.{and-right}
+use Rattle.bits.proofs.Decide.{and-right, either-arm}
 use Rattle.text.specs.declared.Digits.{Digits}
 use Rattle.text.specs.declared.Digits.the-variants.{Number, None}
 use Rattle.text.proofs.Laws.{starts-short}
 use Rattle.text.specs.Text.{startsWith, isWord, fieldOf, numberOf, upTo}
-use Rattle.lines.specs.declared.Line.{Line}
 use Rattle.lines.specs.declared.Line.the-variants.{Event, Unreadable}
 use Rattle.lines.specs.Lines.{lineOf, fieldsOf, deviceOf, eventWith, deviceWith, start, stop, reset, byte, fetch, pins, device, tab, Small, Makes}
 
@@ -35,10 +34,6 @@ field-small count most text = go (eqb (length text) count)
     go : (t : Bool) → Small most (cond t (upTo most (numberOf 0 text)) None)
     go true = up-to most (numberOf 0 text)
     go false = no-digits most
-
-either : (t : Bool) {x y : Line} → Makes x → Makes y → Makes (cond t x y)
-either true a b = a
-either false a b = b
 
 none : Makes Unreadable
 none = record { makes = λ c l e. let z : _≡_ {A = ℕ} 0 1 = cc in absurd (omega arith) }
@@ -64,23 +59,23 @@ made None l a b = none
 device-makes : (s : List ℕ) → Makes (deviceOf s)
 unfolding deviceOf
 device-makes s =
-    either (startsWith tab (drop 1 s))
+    either-arm Makes (startsWith tab (drop 1 s))
     (made (fieldOf 1 3 (take 1 s)) (fieldOf 6 0xffffff (drop 2 s)) (field-small 1 3 (take 1 s)) (field-small 6 0xffffff (drop 2 s)))
     none
 
 fields-make : (s : List ℕ) → Makes (fieldsOf s)
 unfolding fieldsOf
 fields-make s =
-    either (startsWith byte s) (event 2 (fieldOf 2 0xff (drop 5 s)))
-    (either (startsWith fetch s) (event 3 (fieldOf 1 1 (drop 6 s)))
-    (either (startsWith pins s) (event 4 (fieldOf 6 0xffffff (drop 5 s))) (either (startsWith device s) (device-makes (drop 7 s)) none)))
+    either-arm Makes (startsWith byte s) (event 2 (fieldOf 2 0xff (drop 5 s)))
+    (either-arm Makes (startsWith fetch s) (event 3 (fieldOf 1 1 (drop 6 s)))
+    (either-arm Makes (startsWith pins s) (event 4 (fieldOf 6 0xffffff (drop 5 s))) (either-arm Makes (startsWith device s) (device-makes (drop 7 s)) none)))
 
 -- a device line that can be read is one of a device that can be made
 pub line-makes : (s : List ℕ) → Makes (lineOf s)
 unfolding lineOf
 line-makes s =
-    either (ltb 32 (length s)) none
-    (either (isWord start s) (plain 0 0) (either (isWord stop s) (plain 1 0) (either (isWord reset s) (plain 5 0) (fields-make s))))
+    either-arm Makes (ltb 32 (length s)) none
+    (either-arm Makes (isWord start s) (plain 0 0) (either-arm Makes (isWord stop s) (plain 1 0) (either-arm Makes (isWord reset s) (plain 5 0) (fields-make s))))
 
 -- a text is as long as a word that it begins with
 pub starts-long : (word text : List ℕ) → startsWith word text ≡ true → length word ≤ length text
