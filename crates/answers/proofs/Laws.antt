@@ -8,12 +8,15 @@ use native.Mathlib.Omega.{arith}
 use lib.ListN.{length, getD}
 use types.Run.{OneOf}
 use denote.Enum.Declared.{tagOf}
+use Rattle.map.specs.Map.{part24}
+use Rattle.registers.specs.Registers.{drivenLow, drivenHigh, intAsserted}
+use Rattle.bus.specs.Device.{State, Outcome, out}
 use Rattle.bus.proofs.Answer.{the-type}
 use Rattle.bus.specs.declared.Answer.{Answer}
 use Rattle.bus.specs.declared.Answer.the-variants.{Nothing, Ack, Nak, Byte, Refused}
 use Rattle.text.specs.Text.{hexText, Wrote}
 use Rattle.text.proofs.Laws.{wrote-both, wrote-as}
-use Rattle.answers.specs.Answers.{answerWord, columns, lineEnd, answerLine}
+use Rattle.answers.specs.Answers.{answerWord, columns, lineEnd, answerLine, shownLine}
 
 pub word-short : (answer : Answer) → length (answerWord answer) ≤ 9
 unfolding answerWord hexText
@@ -55,3 +58,14 @@ line-short Ack int low high = omega arith
 line-short Nak int low high = omega arith
 line-short (Byte b) int low high = omega arith
 line-short (Refused n) int low high = omega arith
+
+-- an event's line
+pub told-line : (a : Answer) (s : State) (int : Bool) (low high : ℕ) → int ≡ intAsserted part24 (s .regs) → low ≡ drivenLow part24 (s .regs) → high ≡ drivenHigh part24 (s .regs)
+    → answerLine a int low high ≡ shownLine (out a s)
+unfolding shownLine
+told-line a s int low high e f g = rw (e, f, g)
+
+pub told-short : (o : Outcome) → length (shownLine o) ≤ 20
+unfolding shownLine
+told-short o =
+    line-short (o .answer) (intAsserted part24 (o .after .regs)) (drivenLow part24 (o .after .regs)) (drivenHigh part24 (o .after .regs))

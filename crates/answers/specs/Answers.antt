@@ -2,6 +2,9 @@
 use mathlib.Core.Bool.{Bool, cond}
 use mathlib.Core.List.{List, [], _∷_, _++_}
 use Prim.Native.Nat.{ℕ, _%_}
+use Rattle.map.specs.Map.{part24}
+use Rattle.registers.specs.Registers.{drivenLow, drivenHigh, intAsserted}
+use Rattle.bus.specs.Device.{Outcome}
 use Rattle.bus.specs.declared.Answer.{Answer}
 use Rattle.bus.specs.declared.Answer.the-variants.{Nothing, Ack, Nak, Byte, Refused}
 use Rattle.text.specs.Text.{digitByte, hexText}
@@ -28,6 +31,11 @@ lineEnd (Refused n) columns = 0x0a ∷ []
 
 unfoldable pub answerLine : Answer → (int : Bool) → (low high : ℕ) → List ℕ
 answerLine answer int low high = answerWord answer ++ lineEnd answer (columns int low high)
+
+-- an event's line: its answer, INT and the pins driven, as they are after it
+unfoldable pub shownLine : Outcome → List ℕ
+shownLine o =
+    answerLine (o .answer) (intAsserted part24 (o .after .regs)) (drivenLow part24 (o .after .regs)) (drivenHigh part24 (o .after .regs))
 
 abbrev pub refusedLine : (number : ℕ) → List ℕ
 refusedLine number = answerWord (Refused number) ++ (0x0a ∷ [])

@@ -15,7 +15,7 @@ pub fn answer_line(line: &[u8], out: &mut [u8], at: usize) -> usize
     if !fields::is_readable(line) {
         return answers::put_line(out, at, Answer::Refused(7), false, 0, 0);
     }
-    let s = images::step_in(line);
+    let s = imagesteps::step_in(line);
     let answer = s.answer;
     let after = s.device;
     imagetexts::put_outcome(out, at, after, answer)

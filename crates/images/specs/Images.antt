@@ -8,8 +8,7 @@ use Rattle.map.specs.Map.{part24}
 use Rattle.registers.specs.Registers.{core}
 use Rattle.bus.specs.Device.{State, Outcome, state}
 use Rattle.refusals.specs.Refusals.{stepped}
-use Rattle.answers.specs.Answers.{lineEnd, refusedLine}
-use Rattle.tracing.specs.Tracing.{shownLine}
+use Rattle.answers.specs.Answers.{lineEnd, shownLine, refusedLine}
 use Rattle.fields.specs.Fields.{widths, readable, bytesAt, numberIn, bytesText, fieldsText}
 
 -- ---- what a readable line says

@@ -13,10 +13,9 @@ use Rattle.bus.specs.declared.Answer.{Answer}
 use Rattle.bus.specs.declared.Answer.the-variants.{Nothing, Ack, Nak, Byte, Refused}
 use Rattle.text.specs.Text.{hexText, Wrote}
 use Rattle.text.proofs.Laws.{wrote-as, wrote-both}
-use Rattle.answers.specs.Answers.{answerWord, columns, lineEnd, answerLine}
+use Rattle.answers.specs.Answers.{answerWord, columns, lineEnd, answerLine, shownLine}
 use Rattle.answers.proofs.Laws.{answered, line-short}
 use Rattle.bus.specs.Device.{State, out as outcome}
-use Rattle.tracing.specs.Tracing.{shownLine}
 use Rattle.fields.specs.Fields.{widths, bytesText, fieldsText}
 use Rattle.fieldtexts.proofs.Writing.{fields-both}
 use Rattle.images.specs.Images.{imageText, unended, probeLine}

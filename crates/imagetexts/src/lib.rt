@@ -5,7 +5,7 @@ ghost use lib.ListN.{length};
 ghost use Rattle.bus.specs.Device.{out as outcome};
 ghost use Rattle.device.specs.Held.{stateIn};
 ghost use Rattle.text.specs.Text.{Wrote};
-ghost use Rattle.tracing.specs.Tracing.{shownLine};
+ghost use Rattle.answers.specs.Answers.{shownLine};
 ghost use Rattle.images.specs.Images.{imageText, unended, probeLine};
 use bus::Answer;
 use device::Device;
@@ -36,6 +36,7 @@ fn put_answer(out: &mut [u8], at: usize, d: Device, answer: Answer) -> usize
     text::put(out, at, &line[0..end])
 }
 
+// The answer, and behind it the image after the step; a refusal has no image.
 pub fn put_outcome(out: &mut [u8], at: usize, d: Device, answer: Answer) -> usize
     requires { ⌜ at + 360 ≤ length (now out) ⌝ }
     ensures { λ r. ⌜ Wrote (now (out .entry)) at (probeLine (outcome answer (stateIn d))) r (now (out .exit)) × (r ≤ at + 360) ⌝ }

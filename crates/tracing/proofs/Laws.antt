@@ -1,14 +1,12 @@
 -- What the code's cases say of a line. Assumes nothing.
 use mathlib.Core.Path.{_≡_}
-use mathlib.Core.Bool.{Bool, true, false}
+use mathlib.Core.Bool.{true, false}
 use mathlib.Core.List.{List}
 use Prim.Native.Nat.{ℕ, _≤_}
 use lib.ListN.{length}
 use Rattle.map.specs.Map.{part24}
-use Rattle.registers.specs.Registers.{drivenLow, drivenHigh, intAsserted}
-use Rattle.bus.specs.Device.{State, Outcome, out}
+use Rattle.bus.specs.Device.{Outcome, out}
 use Rattle.bus.specs.Held.{stateOf}
-use Rattle.bus.specs.declared.Answer.{Answer}
 use Rattle.bus.specs.declared.Answer.the-variants.{Nothing, Refused}
 use Rattle.refusals.specs.Refusals.{stepped}
 use Rattle.refusals.specs.PowerOn.{powerOn}
@@ -16,19 +14,14 @@ use Rattle.lines.specs.declared.Line.{Line}
 use Rattle.lines.specs.declared.Line.the-variants.{Event, Unreadable, Device as MadeLine}
 use Rattle.lines.specs.Lines.{lineOf}
 use Rattle.answers.specs.Answers.{answerLine}
-use Rattle.answers.proofs.Laws.{line-short}
+use Rattle.answers.proofs.Laws.{line-short, told-short}
 use Rattle.tracing.specs.declared.Desk.{Desk}
 use Rattle.tracing.specs.Tracing.Session.{NoDevice, With}
-use Rattle.tracing.specs.Tracing.{Session, Traced, sessionOf, shownLine, told, unreadable, traced, Says}
+use Rattle.tracing.specs.Tracing.{Session, Traced, sessionOf, told, unreadable, traced, Says}
 
 -- what is said may be said in another way
 pub says-as : {t u : Traced} {out : List ℕ} {at end : ℕ} {left file : List ℕ} {d : Desk} → t ≡ u → Says t out at end left file d → Says u out at end left file d
 says-as e s = rw e at s
-
-pub told-line : (a : Answer) (s : State) (int : Bool) (low high : ℕ) → int ≡ intAsserted part24 (s .regs) → low ≡ drivenLow part24 (s .regs) → high ≡ drivenHigh part24 (s .regs)
-    → answerLine a int low high ≡ shownLine (out a s)
-unfolding shownLine
-told-line a s int low high e f g = rw (e, f, g)
 
 module _ (file : List ℕ) (d : Desk) (kind arg : ℕ) where
   pub event-told : (o : Outcome) → d .has ≡ true → o ≡ stepped part24 (stateOf file (d .rest)) kind arg → told o ≡ traced (sessionOf file d) (Event kind arg)
@@ -50,11 +43,6 @@ module _ (x : Session) (said : Line) (line : List ℕ) (read : said ≡ lineOf l
   pub unreadable-said : said ≡ Unreadable → unreadable x ≡ traced x (lineOf line)
   unfolding traced
   unreadable-said e = rw (← read, e)
-
-told-short : (o : Outcome) → length (shownLine o) ≤ 20
-unfolding shownLine
-told-short o =
-    line-short (o .answer) (intAsserted part24 (o .after .regs)) (drivenLow part24 (o .after .regs)) (drivenHigh part24 (o .after .regs))
 
 -- no answer is longer than this
 pub traced-short : (x : Session) (l : Line) → length (traced x l .line) ≤ 20

@@ -4,7 +4,6 @@ use mathlib.Core.Bool.{cond}
 use mathlib.Core.List.{List}
 use Prim.Native.Nat.{ℕ}
 use Rattle.map.specs.Map.{part24}
-use Rattle.registers.specs.Registers.{drivenLow, drivenHigh, intAsserted}
 use Rattle.bus.specs.Device.{State, Outcome, out}
 use Rattle.bus.specs.declared.Answer.the-variants.{Nothing}
 use Rattle.refusals.specs.Refusals.{stepped}
@@ -13,7 +12,7 @@ use Rattle.refusals.specs.PowerOn.{powerOn}
 use Rattle.text.specs.Text.{Wrote}
 use Rattle.lines.specs.declared.Line.{Line}
 use Rattle.lines.specs.declared.Line.the-variants.{Device, Event, Unreadable}
-use Rattle.answers.specs.Answers.{answerLine, refusedLine}
+use Rattle.answers.specs.Answers.{shownLine, refusedLine}
 use Rattle.tracing.specs.declared.Desk.{Desk}
 
 -- no device yet, or one in this state
@@ -28,11 +27,6 @@ sessionOf file d = cond (d .has) (With (stateOf file (d .rest))) NoDevice
 pub record Traced : Type 0 where
   pub line : List ℕ
   pub after : Session
-
--- an event's line: its answer, INT and the pins driven, as they are after it
-unfoldable pub shownLine : Outcome → List ℕ
-shownLine o =
-    answerLine (o .answer) (intAsserted part24 (o .after .regs)) (drivenLow part24 (o .after .regs)) (drivenHigh part24 (o .after .regs))
 
 abbrev pub told : Outcome → Traced
 told o = record { line = shownLine o; after = With (o .after) }

@@ -2,7 +2,7 @@ use native.Mathlib.Omega.{arith}
 use borrow.Author.Needs.{needs}
 use mathlib.Core.Path.{ap, _∙_}
 use Rattle.text.proofs.Laws.{wrote-as}
-use Rattle.tracing.proofs.Laws.{told-line}
+use Rattle.answers.proofs.Laws.{told-line}
 use Rattle.images.specs.Images.{unended}
 use Rattle.imagetexts.proofs.Laws.{line-ends, part-short, part-is}
 use Rattle.imagetexts.proofs.put_answer.Statement.{statement}

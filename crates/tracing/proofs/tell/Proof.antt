@@ -2,7 +2,7 @@ use borrow.Author.Needs.{needs}
 use mathlib.Core.Path.{refl}
 use Rattle.text.proofs.Laws.{wrote-as}
 use Rattle.bus.specs.Held.{stateOf}
-use Rattle.tracing.proofs.Laws.{told-line}
+use Rattle.answers.proofs.Laws.{told-line}
 use Rattle.tracing.proofs.tell.Statement.{statement}
 use Rattle.tracing.proofs.tell.Tie as tie
 

@@ -1,7 +1,7 @@
 use borrow.Author.Needs.{needs}
 use Rattle.images.proofs.Laws.{step-is}
-use Rattle.images.proofs.step_in.Statement.{statement}
-use Rattle.images.proofs.step_in.Tie as tie
+use Rattle.imagesteps.proofs.step_in.Statement.{statement}
+use Rattle.imagesteps.proofs.step_in.Tie as tie
 
 device-in-requires : tie.Need-device-in-requires
 device-in-requires c κs = search needs

@@ -1,7 +1,7 @@
 use borrow.Author.Needs.{needs}
 use Rattle.images.proofs.Laws.{image-is}
-use Rattle.images.proofs.device_in.Statement.{statement}
-use Rattle.images.proofs.device_in.Tie as tie
+use Rattle.imagesteps.proofs.device_in.Statement.{statement}
+use Rattle.imagesteps.proofs.device_in.Tie as tie
 
 word-at-requires : tie.Need-word-at-requires
 word-at-requires c κs = search needs
