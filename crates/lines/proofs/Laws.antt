@@ -7,7 +7,7 @@ use native.Mathlib.Omega.{arith}
 use lib.Dec.{eqb, leb, ltb}
 use lib.ListN.{length, take, drop, length-drop}
 use lib.Seq.{take-all}
-use borrow.Author.Tests.{leb-true, le-ltb}
+use borrow.Author.Tests.{leb-true, lt-ltb, le-ltb}
 use Rattle.bits.proofs.Decide.{and-right, either-arm}
 use Rattle.text.specs.declared.Digits.{Digits}
 use Rattle.text.specs.declared.Digits.the-variants.{Number, None}
@@ -120,6 +120,10 @@ module _ (s : List ℕ) (not-byte : startsWith byte s ≡ false) where
     pub fields-none : startsWith pins s ≡ false → startsWith device s ≡ false → Unreadable ≡ fieldsOf s
     unfolding fieldsOf
     fields-none p h = rw (not-byte, not-fetch, p, h)
+
+pub line-long : (s : List ℕ) → 32 < length s → Unreadable ≡ lineOf s
+unfolding lineOf
+line-long s long = rw (lt-ltb 32 (length s) long)
 
 module _ (s : List ℕ) (short : length s ≤ 32) where
   pub line-start : isWord start s ≡ true → Event 0 0 ≡ lineOf s

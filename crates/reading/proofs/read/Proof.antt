@@ -1,14 +1,12 @@
 use borrow.Author.Needs.{needs}
-use mathlib.Core.Path.{refl, sym, _∙_}
-use borrow.Author.Tests.{lt-ltb}
-use Rattle.lines.specs.Lines.{lineOf}
-use Rattle.lines.proofs.Laws.{line-start, line-stop, line-reset, line-fields}
+use mathlib.Core.Path.{sym, _∙_}
+use native.Mathlib.Omega.{arith}
+use Rattle.lines.proofs.Laws.{line-long, line-start, line-stop, line-reset, line-fields}
 use Rattle.reading.proofs.read.Statement.{statement}
 use Rattle.reading.proofs.read.Tie as tie
 
 returns : tie.Need-returns
-unfolding lineOf
-returns c = rw (lt-ltb 32 _ (c .if1 .taken)) refl
+returns c = line-long (c .before .before .args .line .now) (omega (arith, c .if1 .taken))
 
 slice-aggregate-is : tie.Need-slice-aggregate-is
 slice-aggregate-is c = search needs
@@ -17,7 +15,7 @@ is-requires : tie.Need-is-requires
 is-requires c κs = search needs
 
 returns-2 : tie.Need-returns-2
-returns-2 c = line-start _ (c .before .before .before .if1 .left) (sym (c .before .is .ensures) ∙ c .if2 .taken)
+returns-2 c = line-start (c .before .before .before .before .before .args .line .now) (omega (arith, c .before .before .before .if1 .left)) (sym (c .before .is .ensures) ∙ c .if2 .taken)
 
 slice-aggregate-is-2 : tie.Need-slice-aggregate-is-2
 slice-aggregate-is-2 c = search needs
@@ -26,7 +24,7 @@ is-requires-2 : tie.Need-is-requires-2
 is-requires-2 c κs = search needs
 
 returns-3 : tie.Need-returns-3
-returns-3 c = line-stop _ (c .before .before .before .before .before .before .if1 .left) (sym (c .before .before .before .before .is .ensures) ∙ c .before .before .before .if2 .left) (sym (c .before .is2 .ensures) ∙ c .if3 .taken)
+returns-3 c = line-stop (c .before .before .before .before .before .before .before .before .args .line .now) (omega (arith, c .before .before .before .before .before .before .if1 .left)) (sym (c .before .before .before .before .is .ensures) ∙ c .before .before .before .if2 .left) (sym (c .before .is2 .ensures) ∙ c .if3 .taken)
 
 slice-aggregate-is-3 : tie.Need-slice-aggregate-is-3
 slice-aggregate-is-3 c = search needs
@@ -35,13 +33,13 @@ is-requires-3 : tie.Need-is-requires-3
 is-requires-3 c κs = search needs
 
 returns-4 : tie.Need-returns-4
-returns-4 c = line-reset _ (c .before .before .before .before .before .before .before .before .before .if1 .left) (sym (c .before .before .before .before .before .before .before .is .ensures) ∙ c .before .before .before .before .before .before .if2 .left) (sym (c .before .before .before .before .is2 .ensures) ∙ c .before .before .before .if3 .left) (sym (c .before .is3 .ensures) ∙ c .if4 .taken)
+returns-4 c = line-reset (c .before .before .before .before .before .before .before .before .before .before .before .args .line .now) (omega (arith, c .before .before .before .before .before .before .before .before .before .if1 .left)) (sym (c .before .before .before .before .before .before .before .is .ensures) ∙ c .before .before .before .before .before .before .if2 .left) (sym (c .before .before .before .before .is2 .ensures) ∙ c .before .before .before .if3 .left) (sym (c .before .is3 .ensures) ∙ c .if4 .taken)
 
 read-fields-requires : tie.Need-read-fields-requires
 read-fields-requires c κs = search needs
 
 returns-5 : tie.Need-returns-5
-returns-5 c = c .read-fields .ensures ∙ line-fields _ (c .before .before .before .before .before .before .before .before .before .before .if1 .left) (sym (c .before .before .before .before .before .before .before .before .is .ensures) ∙ c .before .before .before .before .before .before .before .if2 .left) (sym (c .before .before .before .before .before .is2 .ensures) ∙ c .before .before .before .before .if3 .left) (sym (c .before .before .is3 .ensures) ∙ c .before .if4 .left)
+returns-5 c = c .read-fields .ensures ∙ line-fields (c .before .before .before .before .before .before .before .before .before .before .before .before .args .line .now) (omega (arith, c .before .before .before .before .before .before .before .before .before .before .if1 .left)) (sym (c .before .before .before .before .before .before .before .before .is .ensures) ∙ c .before .before .before .before .before .before .before .if2 .left) (sym (c .before .before .before .before .before .is2 .ensures) ∙ c .before .before .before .before .if3 .left) (sym (c .before .before .is3 .ensures) ∙ c .before .if4 .left)
 
 pub read-spec : {M : Type 1} → statement M
 read-spec =
