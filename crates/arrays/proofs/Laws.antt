@@ -2,9 +2,9 @@
 use mathlib.Core.Path.{_≡_, refl, sym, ap, ap₂, subst, _∙_}
 use mathlib.Core.Bool.{Bool, true, false, cond, _&&_}
 use mathlib.Core.List.{List, [], _∷_}
-use Prim.Native.Nat.{ℕ, _^_, _<_, _≤_}
-use borrow.Author.Tests.{lt-ltb, le-ltb, le-leb, lt-leb}
-use lib.Dec.{eqb, leb, ltb}
+use Prim.Native.Nat.{ℕ, _<_}
+use borrow.Author.Tests.{le-ltb}
+use lib.Dec.{eqb, ltb}
 use lib.ListN.{length}
 use Rattle.bits.proofs.Decide.{clash}
 use Rattle.map.specs.Map.{part24, reserved, defaults}
@@ -47,24 +47,11 @@ pub both-told : {l m h k : ℕ} → l ≡ m → h ≡ k → l ∷ h ∷ [] ≡ m
 both-told = ap₂ (λ (l h : ℕ). l ∷ h ∷ [])
 
 -- a device that is made, or not
-pub made : (choice levels : ℕ) (before after : State) → makingRefused part24 choice levels ≡ 0 → after ≡ powerOn part24 choice levels → Made choice levels 0 before after
-made choice levels before after e q = record { refused = sym e; image = q ∙ simp e }
+pub made : (choice levels : ℕ) (before after : State) → 0 ≡ makingRefused part24 choice levels → after ≡ powerOn part24 choice levels → Made choice levels 0 before after
+made choice levels before after e q = record { refused = e; image = q ∙ simp (sym e) }
 
-pub not-made : (choice levels : ℕ) (before : State) → makingRefused part24 choice levels ≡ 2 → Made choice levels 2 before before
-not-made choice levels before e = record { refused = sym e; image = simp e }
-
-pub choice-over : (choice levels : ℕ) → 3 < choice → makingRefused part24 choice levels ≡ 2
-choice-over choice levels h = simp (lt-leb choice 3 h)
-
-pub levels-over : (choice levels : ℕ) → 0xffffff < levels → makingRefused part24 choice levels ≡ 2
-levels-over choice levels h = ap (λ (b : Bool). cond {A = ℕ} (leb choice 3 && b) 0 2) (le-ltb levels (2 ^ 24) h) ∙ go (leb choice 3)
-  where
-    go : (b : Bool) → _≡_ {A = ℕ} (cond (b && false) 0 2) 2
-    go true = refl
-    go false = refl
-
-pub not-over : (choice levels : ℕ) → choice ≤ 3 → levels < 2 ^ 24 → makingRefused part24 choice levels ≡ 0
-not-over choice levels h k = simp (le-leb choice 3 h, lt-ltb levels (2 ^ 24) k)
+pub not-made : (choice levels : ℕ) (before : State) → 2 ≡ makingRefused part24 choice levels → Made choice levels 2 before before
+not-made choice levels before e = record { refused = e; image = simp (sym e) }
 
 pub powered-on : (choice levels : ℕ) {file : List ℕ} {n : ℕ} → file ≡ defaults part24 → n ≡ choice
     → imageIn (levels ∷ levels ∷ 0 ∷ 0 ∷ []) file (0 ∷ 0 ∷ n ∷ []) ≡ powerOn part24 choice levels

@@ -1,7 +1,8 @@
 use borrow.Author.Needs.{needs}
 use native.Mathlib.Nat.{mod-eq-of-lt}
 use native.Mathlib.Omega.{arith}
-use Rattle.arrays.proofs.Laws.{made, not-made, choice-over, levels-over, not-over, powered-on}
+use Rattle.refusals.proofs.Making.{choice-over, levels-over, none-over}
+use Rattle.arrays.proofs.Laws.{made, not-made, powered-on}
 use Rattle.host.proofs.ghixramel_arrays_power_on.Statement.{statement}
 use Rattle.host.proofs.ghixramel_arrays_power_on.Tie as tie
 
@@ -13,7 +14,7 @@ returns c =
 returns-2 : tie.Need-returns-2
 returns-2 c =
     let x = c .before .before .args in
-    not-made _ _ _ (levels-over (x .choice) (x .levels) (omega (arith, c .if2 .taken)))
+    not-made _ _ _ (levels-over (x .choice) (x .levels) (omega (arith, c .before .if1 .left)) (omega (arith, c .if2 .taken)))
 
 default-file-requires : tie.Need-default-file-requires
 default-file-requires c κs = search needs
@@ -26,7 +27,7 @@ returns-3 c =
     let tested = c .before .before .before in
     let small = tested .before .if1 .left in
     let x = tested .before .before .args in
-    made _ _ _ _ (not-over (x .choice) (x .levels) (omega (arith, small)) (omega (arith, tested .if2 .left)))
+    made _ _ _ _ (none-over (x .choice) (x .levels) (omega (arith, small)) (omega (arith, tested .if2 .left)))
     (powered-on _ _ (c .before .before .default-file .ensures) (mod-eq-of-lt (omega (arith, small))))
 
 pub ghixramel-arrays-power-on-spec : {M : Type 1} → statement M
