@@ -19,11 +19,12 @@ use Rattle.refusals.specs.PowerOn.{powerOn, makingRefused}
 use Rattle.quiet.specs.Settings.{shape24, Write}
 use Rattle.quiet.specs.Order.{blocked}
 use Rattle.quiet.specs.Route.{planOf}
-use Rattle.promises.specs.Answer.{formed, answerOf, Answers}
+use Rattle.promises.specs.Formed.{formed}
+use Rattle.promises.specs.Answer.{answerOf, Answers}
 use Rattle.promises.specs.Answer.Answer.{refuse, give}
-use Rattle.promises.specs.Promise.{Promise}
+use Rattle.promises.specs.Promise.{refusalOf, countOf, Promise}
 use Rattle.promises.specs.declared.Planned.{Planned}
-use Rattle.arrays.specs.Arrays.{imageIn, Told, Made, Seen, Shown, intOf, planNumber, writesAfter, plannedAs}
+use Rattle.arrays.specs.Arrays.{imageIn, Told, Made, Seen, Shown, intOf, writesAfter, plannedAs, countIn}
 
 -- the outcome of a step, told in numbers
 pub told-of : (q : Outcome) (a : Answer) (s after : State) (n : ℕ) (before told : List ℕ) → out a s ≡ q → after ≡ s → n ≡ refusalNumber a
@@ -93,9 +94,9 @@ isRefusal (Planned.Refused n) = true
 
 not-zero : (fit small stuck : Bool) (ws : List Write) (n : ℕ) (before after : List ℕ)
     → Answers (Planned.Refused n) before after (cond fit (cond small (refuse 6) (cond stuck (refuse 4) (give ws))) (refuse 5)) → eqb n 0 ≡ false
-not-zero false small stuck ws n before after q = ap (λ (p : Planned). eqb (planNumber p) 0) (q .0)
-not-zero true true stuck ws n before after q = ap (λ (p : Planned). eqb (planNumber p) 0) (q .0)
-not-zero true false true ws n before after q = ap (λ (p : Planned). eqb (planNumber p) 0) (q .0)
+not-zero false small stuck ws n before after q = ap (λ (p : Planned). eqb (refusalOf p) 0) (q .0)
+not-zero true true stuck ws n before after q = ap (λ (p : Planned). eqb (refusalOf p) 0) (q .0)
+not-zero true false true ws n before after q = ap (λ (p : Planned). eqb (refusalOf p) 0) (q .0)
 not-zero true false false ws n before after q = clash true refl (ap isRefusal (q .0))
 
 module _ (start goal before after : List ℕ) where
@@ -108,19 +109,23 @@ module _ (start goal before after : List ℕ) where
       not-zero (formed start && formed goal) (ltb (length before) 32) (blocked shape24 start goal) (planOf shape24 start goal) n before after q
 
   -- so the two numbers say which of the two it was
-  as-numbers : (p : Planned) → Said p → (writes : List ℕ) → plannedAs (planNumber p) (writesAfter p writes) ≡ p
+  as-numbers : (p : Planned) → Said p → (writes : List ℕ) → plannedAs (refusalOf p) (writesAfter p writes) ≡ p
   as-numbers (Planned.Writes n) q writes = refl
   as-numbers (Planned.Refused n) q writes = simp (refusal-not-zero n q)
 
-kept-writes : (p : Planned) (writes : List ℕ) → eqb (planNumber p) 0 ≡ false → writesAfter p writes ≡ writes
+kept-writes : (p : Planned) (writes : List ℕ) → eqb (refusalOf p) 0 ≡ false → writesAfter p writes ≡ writes
 kept-writes (Planned.Writes n) writes h = clash true refl h
 kept-writes (Planned.Refused n) writes h = refl
 
-pub plan-told : {start goal before after : List ℕ} {p : Planned} → Promise start goal before after p → Said start goal before after p
-    → {n : ℕ} {writes rest : List ℕ} → n ≡ planNumber p → rest ≡ writesAfter p writes
-    → Said start goal before after (plannedAs n rest) × (Promise start goal before after (plannedAs n rest) × (eqb n 0 ≡ false → rest ≡ writes))
-plan-told {start} {goal} {before} {after} {p} promise said {n} {writes} {rest} e q =
+pub plan-told : {start goal before after : List ℕ} (p : Planned) → Promise start goal before after (refusalOf p) (countOf p) → Said start goal before after p
+    → {n : ℕ} {writes rest : List ℕ} → n ≡ refusalOf p → rest ≡ writesAfter p writes
+    → Said start goal before after (plannedAs n rest) × (Promise start goal before after n (countIn n rest) × (eqb n 0 ≡ false → rest ≡ writes))
+plan-told {start} {goal} {before} {after} p promise said {n} {writes} {rest} e q =
     let same : plannedAs n rest ≡ p = ap₂ plannedAs e q ∙ as-numbers start goal before after p said writes in (
       subst (Said start goal before after) (sym same) said,
-      (subst (Promise start goal before after) (sym same) promise, λ h. q ∙ kept-writes p writes (ap (λ (n : ℕ). eqb n 0) (sym e) ∙ h)),
+      (
+        subst (λ (m : ℕ). Promise start goal before after m (countIn n rest)) (sym e)
+            (subst (Promise start goal before after (refusalOf p)) (ap countOf (sym same)) promise),
+        λ h. q ∙ kept-writes p writes (ap (λ (n : ℕ). eqb n 0) (sym e) ∙ h),
+      ),
     )

@@ -5,14 +5,15 @@ use mathlib.Core.Path.{_≡_}
 use Prim.Native.Nat.{ℕ}
 use lib.Dec.{eqb}
 use lib.ListN.{getD}
-use Rattle.map.specs.Map.{part24, reserved}
+use Rattle.map.specs.Map.{part24}
 use Rattle.registers.specs.Registers.{drivenLow, drivenHigh, intAsserted, shown}
 use Rattle.bus.specs.Device.{State, Outcome}
 use Rattle.bus.specs.Held.{stateOf}
 use Rattle.bus.specs.Answers.{answerKind, answerByte, refusalNumber}
 use Rattle.bus.specs.declared.Rest.{Rest}
-use Rattle.refusals.specs.Refusals.{imageFits}
+use Rattle.refusals.specs.Refusals.{imageFits, viewRefused, showRefused}
 use Rattle.refusals.specs.PowerOn.{powerOn, makingRefused}
+use Rattle.promises.specs.Promise.{countOf}
 use Rattle.promises.specs.declared.Planned.{Planned}
 
 -- the pin sets in the order level, reference, held, edge; then pointer, bus state, address choice
@@ -42,7 +43,7 @@ pub record Made (choice levels number : ℕ) (before after : State) : Type 0 whe
 -- what can be seen of an image: refusal 3 if it is broken, and then what was lent for it stays as it was
 abbrev pub Seen : (s : State) → (value : List ℕ) → (number : ℕ) → (lent-before lent-after : List ℕ) → Type 0
 Seen s value number lent-before lent-after =
-    (number ≡ cond (imageFits part24 s) 0 3) × (lent-after ≡ cond (imageFits part24 s) value lent-before)
+    (number ≡ viewRefused part24 s) × (lent-after ≡ cond (imageFits part24 s) value lent-before)
 
 abbrev pub drivesOf : State → List ℕ
 drivesOf s = drivenLow part24 (s .regs) ∷ drivenHigh part24 (s .regs) ∷ []
@@ -51,23 +52,20 @@ drivesOf s = drivenLow part24 (s .regs) ∷ drivenHigh part24 (s .regs) ∷ []
 abbrev pub intOf : State → List ℕ
 intOf s = cond (intAsserted part24 (s .regs)) 1 0 ∷ []
 
--- the byte of one register: after refusal 3, refusal 2 for a number that is reserved or over 7Fh
-abbrev pub showRefused : State → (n : ℕ) → ℕ
-showRefused s n = cond (imageFits part24 s) (cond (reserved part24 n) 2 0) 3
-
+-- the byte of one register
 abbrev pub Shown : (s : State) → (n number : ℕ) → (lent-before lent-after : List ℕ) → Type 0
 Shown s n number lent-before lent-after =
-    (number ≡ showRefused s n) × (lent-after ≡ cond (eqb (showRefused s n) 0) (shown part24 (s .regs) n ∷ []) lent-before)
+    (number ≡ showRefused part24 s n) × (lent-after ≡ cond (eqb (showRefused part24 s n) 0) (shown part24 (s .regs) n ∷ []) lent-before)
 
--- the planner's answer as numbers: a refusal's, 0 for none, and how many writes there are, which a refusal leaves as it was
-abbrev pub planNumber : Planned → ℕ
-planNumber (Planned.Writes n) = 0
-planNumber (Planned.Refused n) = n
-
+-- how many writes there are, stored beside the plan; a refusal leaves what was lent for it as it was
 abbrev pub writesAfter : Planned → (before : List ℕ) → List ℕ
 writesAfter (Planned.Writes n) before = n ∷ []
 writesAfter (Planned.Refused n) before = before
 
--- and back
+-- the planner's answer out of the two: the refusal's number and what was lent for the count
 abbrev pub plannedAs : (number : ℕ) → (writes : List ℕ) → Planned
 plannedAs number writes = cond (eqb number 0) (Planned.Writes (getD writes 0 0)) (Planned.Refused number)
+
+-- and its count, 0 where it was refused
+abbrev pub countIn : (number : ℕ) → (writes : List ℕ) → ℕ
+countIn number writes = countOf (plannedAs number writes)

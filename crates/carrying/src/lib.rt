@@ -4,7 +4,8 @@ ghost use mathlib.Core.Bool.{cond};
 ghost use mathlib.Core.List.{[], _∷_};
 ghost use lib.Dec.{eqb};
 ghost use Rattle.bus.specs.Answers.{answerKind, answerByte, refusalNumber};
-ghost use Rattle.arrays.specs.Arrays.{restIn, planNumber, writesAfter};
+ghost use Rattle.promises.specs.Promise.{refusalOf};
+ghost use Rattle.arrays.specs.Arrays.{restIn, writesAfter};
 use bus::Answer;
 use bus::Rest;
 use pins::Sets;
@@ -74,7 +75,7 @@ pub fn one_if(t: bool) -> u8
 
 // The planner's answer as numbers: the refusal's is given back, the number of writes stored.
 pub fn tell_plan(planned: Planned, writes: &mut [u64; 1]) -> u32
-    ensures { λ r. ⌜ (r ≡ planNumber planned) × (now (writes .exit) ≡ writesAfter planned (now (writes .entry))) ⌝ }
+    ensures { λ r. ⌜ (r ≡ refusalOf planned) × (now (writes .exit) ≡ writesAfter planned (now (writes .entry))) ⌝ }
 {
     match planned {
         Planned::Writes(n) => {

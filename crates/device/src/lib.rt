@@ -1,13 +1,11 @@
 // The device by value, as its callers have it: made, stepped and asked.
 ghost use mathlib.Core.Path.{_≡_};
-ghost use mathlib.Core.Bool.{cond};
-ghost use lib.Dec.{ltb};
 ghost use Rattle.map.specs.Map.{part24, defaults};
-ghost use Rattle.registers.specs.Registers.{drivenLow, drivenHigh, intAsserted, shown};
 ghost use Rattle.bus.specs.Device.{out};
-ghost use Rattle.refusals.specs.Refusals.{stepped};
+ghost use Rattle.refusals.specs.Refusals.{imageFits, stepped};
 ghost use Rattle.refusals.specs.PowerOn.{MadeOf};
 ghost use Rattle.device.specs.Held.{stateIn};
+ghost use Rattle.device.specs.Asked.{lowOf, highOf, lineOf, shownOf};
 use bus::Answer;
 use bus::Rest;
 use pins::Sets;
@@ -33,9 +31,34 @@ pub struct Made {
     pub device: Device,
 }
 
+// What a device drives, at one of the two levels: a refusal's number, 0 for none, and the pins, none where it was refused.
+pub struct Driven {
+    pub refusal: u8,
+    pub pins: u64,
+}
+
+// INT: a refusal's number, 0 for none, and whether it is asserted.
+pub struct Line {
+    pub refusal: u8,
+    pub asserted: bool,
+}
+
+// The byte of a register: a refusal's number, 0 for none, and the byte, 0 where it was refused.
+pub struct Shown {
+    pub refusal: u8,
+    pub byte: u8,
+}
+
 impl Device {
     // the most writes that a plan may have
     pub const WRITE_BOUND: usize = 16;
+
+    // How many bytes a buffer has at least that has room for every plan.
+    pub fn plan_room() -> usize
+        ensures { λ r. ⌜ r ≡ 32 ⌝ }
+    {
+        2 * Self::WRITE_BOUND
+    }
 
     // The register file after any reset.
     pub fn reset_values() -> [u8; 128]
@@ -92,38 +115,87 @@ impl Device {
         Stepped { answer, device }
     }
 
-    // The pins driven low.
-    pub fn low(self) -> u64
-        ensures { λ s. ⌜ s ≡ drivenLow part24 (stateIn self .regs) ⌝ }
+    // Whether the image may stand: what refusal 3 asks.
+    fn fits(self) -> bool
+        ensures { λ t. ⌜ t ≡ imageFits part24 (stateIn self) ⌝ }
     {
         let file = self.file;
-        views::low(&file)
+        let sets = self.sets;
+        let rest = Rest {
+            sets,
+            pointer: self.pointer,
+            bus: self.bus,
+            choice: self.choice,
+        };
+        refusing::image_fits(&file, rest)
+    }
+
+    // The pins driven low.
+    pub fn low(self) -> Driven
+        ensures { λ a. ⌜ a ≡ lowOf part24 (stateIn self) ⌝ }
+    {
+        if self.fits() {
+            let file = self.file;
+            let pins = views::low(&file);
+            return Driven { refusal: 0, pins };
+        }
+        Driven {
+            refusal: 3,
+            pins: 0,
+        }
     }
 
     // The pins driven high.
-    pub fn high(self) -> u64
-        ensures { λ s. ⌜ s ≡ drivenHigh part24 (stateIn self .regs) ⌝ }
+    pub fn high(self) -> Driven
+        ensures { λ a. ⌜ a ≡ highOf part24 (stateIn self) ⌝ }
     {
-        let file = self.file;
-        views::high(&file)
-    }
-
-    // Whether INT is asserted.
-    pub fn int(self) -> bool
-        ensures { λ t. ⌜ t ≡ intAsserted part24 (stateIn self .regs) ⌝ }
-    {
-        let file = self.file;
-        views::int(&file, self.sets)
-    }
-
-    // The byte that a fetch of register n would show, 0 above 7Fh: input port bytes, status bytes and all others.
-    pub fn show(self, n: u8) -> u8
-        ensures { λ b. ⌜ b ≡ cond (ltb n 128) (shown part24 (stateIn self .regs) n) 0 ⌝ }
-    {
-        let file = self.file;
-        if n < 128 {
-            return fetches::show(&file, self.sets, n);
+        if self.fits() {
+            let file = self.file;
+            let pins = views::high(&file);
+            return Driven { refusal: 0, pins };
         }
-        0
+        Driven {
+            refusal: 3,
+            pins: 0,
+        }
+    }
+
+    // Whether INT is asserted. Refused it counts as asserted: nobody is to take a refusal for quiet.
+    pub fn int(self) -> Line
+        ensures { λ a. ⌜ a ≡ lineOf part24 (stateIn self) ⌝ }
+    {
+        if self.fits() {
+            let file = self.file;
+            let asserted = views::int(&file, self.sets);
+            return Line {
+                refusal: 0,
+                asserted,
+            };
+        }
+        Line {
+            refusal: 3,
+            asserted: true,
+        }
+    }
+
+    // The byte that a fetch of register n would show: input port bytes, status bytes and all others.
+    pub fn show(self, n: u8) -> Shown
+        ensures { λ a. ⌜ a ≡ shownOf part24 (stateIn self) n ⌝ }
+    {
+        if !self.fits() {
+            return Shown {
+                refusal: 3,
+                byte: 0,
+            };
+        }
+        if lookup::is_reserved(n) {
+            return Shown {
+                refusal: 2,
+                byte: 0,
+            };
+        }
+        let file = self.file;
+        let byte = fetches::show(&file, self.sets, n);
+        Shown { refusal: 0, byte }
     }
 }

@@ -6,7 +6,7 @@ use Prim.Native.Nat.{ℕ}
 use borrow.Author.Tests.{eq-eqb, ne-eqb}
 use lib.Dec.{ltb}
 use lib.ListN.{length, getD}
-use Rattle.promises.specs.Answer.{formed}
+use Rattle.promises.specs.Formed.{formed}
 
 pub formed-not : (s : List ℕ) → (length s ≡ 10 → ⊥) → false ≡ formed s
 formed-not s h = ap (λ (b : Bool). b && ltb (getD s 6 0) 8) (sym (ne-eqb (length s) 10 h))

@@ -1,6 +1,6 @@
 // Whether settings are well-formed: the planner's first question.
 ghost use mathlib.Core.Path.{_≡_};
-ghost use Rattle.promises.specs.Answer.{formed};
+ghost use Rattle.promises.specs.Formed.{formed};
 
 // Whether s is ten bytes with no bit past port 2 in the output port kind.
 pub fn is_formed(s: &[u8]) -> bool

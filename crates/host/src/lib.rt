@@ -7,7 +7,7 @@ ghost use Rattle.map.specs.Map.{part24};
 ghost use Rattle.refusals.specs.Refusals.{stepped};
 ghost use Rattle.promises.specs.Answer.{answerOf, Answers};
 ghost use Rattle.promises.specs.Promise.{Promise};
-ghost use Rattle.arrays.specs.Arrays.{imageIn, Told, Made, Seen, Shown, drivesOf, intOf, plannedAs};
+ghost use Rattle.arrays.specs.Arrays.{imageIn, Told, Made, Seen, Shown, drivesOf, intOf, plannedAs, countIn};
 
 // One event.
 #[no_mangle]
@@ -129,7 +129,7 @@ pub extern "C" fn ghixramel_plan(
 ) -> u32
     ensures exact { λ r. ⌜ Answers (plannedAs r (now (writes .exit))) (now (buffer .entry)) (now (buffer .exit))
         (answerOf (now (start .entry)) (now (goal .entry)) (length (now (buffer .entry)))) ⌝ }
-    ensures promise { λ r. ⌜ Promise (now (start .entry)) (now (goal .entry)) (now (buffer .entry)) (now (buffer .exit)) (plannedAs r (now (writes .exit))) ⌝ }
+    ensures promise { λ r. ⌜ Promise (now (start .entry)) (now (goal .entry)) (now (buffer .entry)) (now (buffer .exit)) r (countIn r (now (writes .exit))) ⌝ }
     ensures refused { λ r. ⌜ (eqb r 0 ≡ false → now (writes .exit) ≡ now (writes .entry)) ⌝ }
 {
     let planned = planner::plan(start, goal, buffer);

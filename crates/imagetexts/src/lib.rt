@@ -28,9 +28,10 @@ fn put_answer(out: &mut [u8], at: usize, d: Device, answer: Answer) -> usize
     requires { ⌜ at + 20 ≤ length (now out) ⌝ }
     ensures { λ r. ⌜ Wrote (now (out .entry)) at (unended (shownLine (outcome answer (stateIn d)))) r (now (out .exit)) × (r ≤ at + 20) ⌝ }
 {
-    let int = d.int();
-    let low = d.low();
-    let high = d.high();
+    let file = d.file;
+    let int = views::int(&file, d.sets);
+    let low = views::low(&file);
+    let high = views::high(&file);
     let mut line = [0u8; 26];
     let end = answers::put_line(&mut line, 0, answer, int, low, high) - 1;
     text::put(out, at, &line[0..end])

@@ -8,7 +8,8 @@ use native.Mathlib.Omega.{arith}
 use lib.Dec.{eqb}
 use lib.ListN.{length, getD, drop}
 use Rattle.quiet.specs.Settings.{Shape, shape24, Settings, Write, placeOf, stored, put}
-use Rattle.quiet.specs.Route.{midOutputs, midConfigurations, route, needed, planOf, bytesOf}
+use Rattle.quiet.specs.Route.{midOutputs, midConfigurations, route, needed, planOf}
+use Rattle.promises.specs.Promise.{bytesOf}
 use Rattle.halfway.specs.Halfway.{Halfway}
 use Rattle.pairs.specs.Pairs.{kept, Emitted}
 use Rattle.laying.specs.Sixteen.{wasOf, toOf}

@@ -6,14 +6,16 @@ ghost use lib.ListN.{length};
 ghost use Rattle.bits.specs.Bits.{tabulate};
 ghost use Rattle.quiet.specs.Settings.{shape24, bitsOf};
 ghost use Rattle.quiet.specs.Order.{stuck};
-ghost use Rattle.promises.specs.Answer.{formed, answerOf, Answers};
-ghost use Rattle.promises.specs.Promise.{Promise};
+ghost use Rattle.promises.specs.Answer.{answerOf, Answers};
+ghost use Rattle.promises.specs.Formed.{formed};
+ghost use Rattle.promises.specs.Promise.{refusalOf, countOf, Promise};
+use device::Device;
 use promises::Planned;
 
 // The plan from the start to the goal, at the start of the buffer.
 pub fn plan(start: &[u8], goal: &[u8], buf: &mut [u8]) -> Planned
     ensures exact { λ r. ⌜ Answers r (now (buf .entry)) (now (buf .exit)) (answerOf (now (start .entry)) (now (goal .entry)) (length (now (buf .entry)))) ⌝ }
-    ensures promise { λ r. ⌜ Promise (now (start .entry)) (now (goal .entry)) (now (buf .entry)) (now (buf .exit)) r ⌝ }
+    ensures promise { λ r. ⌜ Promise (now (start .entry)) (now (goal .entry)) (now (buf .entry)) (now (buf .exit)) (refusalOf r) (countOf r) ⌝ }
 {
     if !formed::is_formed(start) {
         return Planned::Refused(5);
@@ -21,7 +23,7 @@ pub fn plan(start: &[u8], goal: &[u8], buf: &mut [u8]) -> Planned
     if !formed::is_formed(goal) {
         return Planned::Refused(5);
     }
-    if buf.len() < 32 {
+    if buf.len() < Device::plan_room() {
         return Planned::Refused(6);
     }
     if halfway::is_blocked(start, goal) {

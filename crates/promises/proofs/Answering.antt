@@ -9,7 +9,8 @@ use lib.ListN.{length, getD}
 use Rattle.quiet.specs.Settings.{shape24, Settings}
 use Rattle.quiet.specs.Order.{blocked}
 use Rattle.quiet.specs.Route.{planOf}
-use Rattle.promises.specs.Answer.{formed, Answer, refuse, give, answerOf, Answers, Planted}
+use Rattle.promises.specs.Formed.{formed}
+use Rattle.promises.specs.Answer.{Answer, refuse, give, answerOf, Answers, Planted}
 use Rattle.promises.specs.declared.Planned.{Planned}
 use Rattle.quiet.proofs.Blocked.{both}
 

@@ -1,5 +1,5 @@
 -- The answer keeps the promise. Assumes nothing.
-use mathlib.Core.Path.{_≡_, refl, sym, ap, _∙_}
+use mathlib.Core.Path.{_≡_, refl, sym, ap, subst, _∙_}
 use mathlib.Core.Bool.{Bool, true, false, _&&_}
 use mathlib.Core.List.{List, _++_}
 use mathlib.Core.Logic.{inl, inr}
@@ -10,15 +10,16 @@ use lib.Dec.{ltb}
 use lib.ListN.{length, getD, drop}
 use Rattle.bits.proofs.Decide.{clash}
 use Rattle.quiet.specs.Settings.{shape24, Settings, Write}
-use Rattle.quiet.specs.Order.{Sound, Orderly, blocked}
-use Rattle.quiet.specs.Route.{planOf, bytesOf}
-use Rattle.quiet.specs.Quiet.{Quiet, Listed}
+use Rattle.quiet.specs.Order.{Good, Sound, Orderly, blocked}
+use Rattle.quiet.specs.Route.{planOf}
+use Rattle.quiet.specs.Quiet.{Quiet, Listed, settingsOf}
 use Rattle.quiet.proofs.Theorems.{orderly, unmoved}
-use Rattle.quiet.proofs.Lift.{listed-of}
+use Rattle.quiet.proofs.Lift.{listed-of, others-stay, all-change}
 use Rattle.quiet.proofs.Exactly.{none-on, plan-quiet}
 use Rattle.quiet.proofs.Standing.{stands}
-use Rattle.promises.specs.Answer.{formed, answerOf, Answers}
-use Rattle.promises.specs.Promise.{Given, NoneOn, Promise}
+use Rattle.promises.specs.Formed.{formed}
+use Rattle.promises.specs.Answer.{answerOf, Answers}
+use Rattle.promises.specs.Promise.{refusalOf, countOf, bytesOf, Given, NoneOn, Promise}
 use Rattle.promises.specs.declared.Planned.{Planned}
 use Rattle.promises.proofs.Answering.{whole, kinds, chain}
 
@@ -27,9 +28,9 @@ module _ (s g before rest : List ℕ) (r : Planned) (bs : (i : ℕ) → getD s i
   sound x b e = record { whole = whole x e; bytes = b; kinds = kinds x e }
 
   -- malformed
-  wrong : (formed s && formed g) ≡ false → (r ≡ Planned.Refused 5) × (rest ≡ before) → Promise s g before rest r
+  wrong : (formed s && formed g) ≡ false → (r ≡ Planned.Refused 5) × (rest ≡ before) → Promise s g before rest (refusalOf r) (countOf r)
   wrong h a = record {
-    five = λ e. a;
+    five = λ e. (ap refusalOf (a .0), a .1);
     six = λ e. clash (formed s && formed g) e h;
     four = λ e. clash (formed s && formed g) e h;
     given = λ e. clash (formed s && formed g) e h;
@@ -40,23 +41,23 @@ module _ (s g before rest : List ℕ) (r : Planned) (bs : (i : ℕ) → getD s i
     fine : (formed s && formed g) ≡ true
     fine = ap (λ (x : Bool). x && formed g) ha ∙ hb
 
-    small : length before < 32 → (r ≡ Planned.Refused 6) × (rest ≡ before) → Promise s g before rest r
+    small : length before < 32 → (r ≡ Planned.Refused 6) × (rest ≡ before) → Promise s g before rest (refusalOf r) (countOf r)
     small h a = record {
       five = λ e. clash (formed s && formed g) fine e;
-      six = λ e l. a;
+      six = λ e l. (ap refusalOf (a .0), a .1);
       four = λ e l. absurd (omega (arith, h, l));
       given = λ e l. absurd (omega (arith, h, l));
       none-else = λ e l. absurd (omega (arith, h, l));
     }
 
     module _ (room : 32 ≤ length before) where
-      blocked-way : blocked shape24 s g ≡ true → (r ≡ Planned.Refused 4) × (rest ≡ before) → Promise s g before rest r
+      blocked-way : blocked shape24 s g ≡ true → (r ≡ Planned.Refused 4) × (rest ≡ before) → Promise s g before rest (refusalOf r) (countOf r)
       blocked-way d a = record {
         five = λ e. clash (formed s && formed g) fine e;
         six = λ e l. absurd (omega (arith, room, l));
-        four = λ e l none. (a .0, a .1, on-none);
+        four = λ e l none. (ap refusalOf (a .0), a .1, on-none);
         given = λ e l ws listed q. absurd (witness ws listed q);
-        none-else = λ e l. inl (a .0, a .1, on-none);
+        none-else = λ e l. inl (ap refusalOf (a .0), a .1, on-none);
       }
         where
           on-none : NoneOn s g
@@ -66,7 +67,7 @@ module _ (s g before rest : List ℕ) (r : Planned) (bs : (i : ℕ) → getD s i
           witness ws l q = let x = stands s (whole s ha) (kinds s ha) in on-none (x .0) (x .1) (x .2) ws l (q (x .0) (x .1) (x .2))
 
       free-way : blocked shape24 s g ≡ false → (r ≡ Planned.Writes (length (planOf shape24 s g))) × (rest ≡ bytesOf (planOf shape24 s g) ++ drop (2 * length (planOf shape24 s g)) before)
-          → Promise s g before rest r
+          → Promise s g before rest (refusalOf r) (countOf r)
       free-way d a = record {
         five = λ e. clash (formed s && formed g) fine e;
         six = λ e l. absurd (omega (arith, room, l));
@@ -84,26 +85,29 @@ module _ (s g before rest : List ℕ) (r : Planned) (bs : (i : ℕ) → getD s i
           quiet : Quiet s g (planOf shape24 s g)
           quiet = plan-quiet s g (sound s bs ha) (sound g bg hb) d
 
-          plan : Given s g before rest r
+          plan : Given s g before rest (refusalOf r) (countOf r)
           plan = record {
             list = planOf shape24 s g;
-            count = a .0;
+            taken = ap refusalOf (a .0);
+            counted = ap countOf (a .0);
             few = order .1;
             listed = listed;
             quiet = quiet;
-            changes = λ t h. order .0 .good t h .changes;
+            changes = λ x f e. all-change x (planOf shape24 s g) (f .full) listed
+                (λ t h. subst (λ (z : Settings). Good shape24 z (planOf shape24 s g) t) (sym e) (order .0 .good t h));
+            spares = λ x f e. others-stay x (planOf shape24 s g) (f .full) listed;
             bytes = a .1;
             idle = λ e. ap (λ (z : Settings). planOf shape24 s z) (sym e) ∙ unmoved s (sound s bs ha);
           }
 
   go : (a b c d : Bool) → formed s ≡ a → formed g ≡ b → ltb (length before) 32 ≡ c → blocked shape24 s g ≡ d
-      → Answers r before rest (chain s g a b c d) → Promise s g before rest r
+      → Answers r before rest (chain s g a b c d) → Promise s g before rest (refusalOf r) (countOf r)
   go false b c d ha hb hc hd h = wrong (ap (λ (x : Bool). x && formed g) ha) h
   go true false c d ha hb hc hd h = wrong (ap (λ (x : Bool). x && formed g) ha ∙ hb) h
   go true true true d ha hb hc hd h = small ha hb (ltb-true (length before) 32 hc) h
   go true true false true ha hb hc hd h = blocked-way ha hb (ltb-false (length before) 32 hc) hd h
   go true true false false ha hb hc hd h = free-way ha hb (ltb-false (length before) 32 hc) hd h
 
-  pub promised : Answers r before rest (answerOf s g (length before)) → Promise s g before rest r
+  pub promised : Answers r before rest (answerOf s g (length before)) → Promise s g before rest (refusalOf r) (countOf r)
   unfolding answerOf
   promised = go (formed s) (formed g) (ltb (length before) 32) (blocked shape24 s g) refl refl refl refl

@@ -1,18 +1,16 @@
--- What the planner answers.
-use mathlib.Core.Bool.{Bool, cond, _&&_}
+-- What the planner answers today: one of the plans that it promises.
+use mathlib.Core.Bool.{cond, _&&_}
 use mathlib.Core.List.{List, _++_}
 use mathlib.Core.Path.{_≡_}
 use Prim.Native.Nat.{ℕ, _*_}
-use lib.Dec.{eqb, ltb}
-use lib.ListN.{getD, length, drop}
+use lib.Dec.{ltb}
+use lib.ListN.{length, drop}
 use Rattle.quiet.specs.Settings.{shape24, Settings, Write}
 use Rattle.quiet.specs.Order.{blocked}
-use Rattle.quiet.specs.Route.{planOf, bytesOf}
+use Rattle.quiet.specs.Route.{planOf}
+use Rattle.promises.specs.Formed.{formed}
+use Rattle.promises.specs.Promise.{bytesOf}
 use Rattle.promises.specs.declared.Planned.{Planned}
-
--- ten bytes, and no bit past port 2 in the port kinds
-abbrev pub formed : Settings → Bool
-formed s = eqb (length s) 10 && ltb (getD s 6 0) 8
 
 pub data Answer : Type 0 where
   refuse : ℕ → Answer

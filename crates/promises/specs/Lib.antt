@@ -1,2 +1,3 @@
-pub mod Answer
+pub mod Formed
 pub mod Promise
+pub mod Answer

@@ -23,8 +23,8 @@ use Rattle.registers.specs.Registers.{Core, onePin, ofPort, writtenTo, writtenA
 use Rattle.pinwise.proofs.Written.{write-pin}
 use Rattle.quiet.specs.Settings.{shape24, Settings, driveIn, Write, place, placeOf, put, run, nth}
 use Rattle.quiet.specs.Settings as set24
-use Rattle.quiet.specs.Order.{Orderly}
-use Rattle.quiet.specs.Quiet.{Still, QuietOn, readAll, settingsOf, writes, afterFirst, isPlanned, Listed, driveAt, inputAt, statusAt, bitsAt}
+use Rattle.quiet.specs.Order.{Good, Orderly}
+use Rattle.quiet.specs.Quiet.{Still, QuietOn, Changing, Sparing, readAll, settingsOf, writes, afterFirst, isPlanned, Listed, driveAt, inputAt, statusAt, bitsAt}
 
 -- ---- registers of a list
 -- each stands there once
@@ -39,6 +39,15 @@ found (x ∷ xs) r h = go (found xs r) (eqb x r) refl h
     go : (place xs r < length xs → getD xs (place xs r) 0 ≡ r) → (b : Bool) → eqb x r ≡ b
         → cond b 0 (suc (place xs r)) < suc (length xs) → getD (x ∷ xs) (cond b 0 (suc (place xs r))) 0 ≡ r
     go rest true e q = eqb-true x r e
+    go rest false e q = rest (omega arith)
+
+read-at : (file : List ℕ) (r : ℕ) (xs : List ℕ) → place xs r < length xs → getD (readAll file xs) (place xs r) 0 ≡ getD file r 0
+read-at file r [] h = absurd (omega arith)
+read-at file r (x ∷ xs) h = go (read-at file r xs) (eqb x r) refl h
+  where
+    go : (place xs r < length xs → getD (readAll file xs) (place xs r) 0 ≡ getD file r 0) → (b : Bool) → eqb x r ≡ b
+        → cond b 0 (suc (place xs r)) < suc (length xs) → getD (readAll file (x ∷ xs)) (cond b 0 (suc (place xs r))) 0 ≡ getD file r 0
+    go rest true e q = ap (λ (n : ℕ). getD file n 0) (eqb-true x r e)
     go rest false e q = rest (omega arith)
 
 module _ (file : List ℕ) (r v : ℕ) (h : r < length file) where
@@ -260,13 +269,26 @@ ends s [] full l = refl
 ends s (w ∷ ws) full l =
     ends (written part24 s (w .register) (w .value)) ws (stays-full s w full (l .0)) (l .2) ∙ ap (λ (x : Settings). run shape24 x ws) (reads s w full (l .0))
 
-others-stay : (s : Core) (ws : List Write) → length (s .file) ≡ 128 → Listed ws → (n : ℕ) → (isPlanned n → ⊥)
-    → (t : ℕ) → getD (afterFirst s ws t .file) n 0 ≡ getD (s .file) n 0
+pub others-stay : (s : Core) (ws : List Write) → length (s .file) ≡ 128 → Listed ws → Sparing s ws
 others-stay s [] full l n z zero = refl
 others-stay s [] full l n z (suc t) = refl
 others-stay s (w ∷ ws) full l n z zero = refl
 others-stay s (w ∷ ws) full l n z (suc t) =
     others-stay (written part24 s (w .register) (w .value)) ws (stays-full s w full (l .0)) (l .2) n z t ∙ other-stays s w full (l .0) n z
+
+-- a write that changes the settings changes its register
+pub all-change : (s : Core) (ws : List Write) → length (s .file) ≡ 128 → Listed ws → ((t : ℕ) → t < length ws → Good shape24 (settingsOf s) ws t) → Changing s ws
+all-change s [] full l good t h = absurd (omega arith)
+all-change s (w ∷ ws) full l good zero h = λ e.
+    good 0 h .changes
+    (read-at (s .file) (w .register) (shape24 .registers) (l .0) ∙ e ∙ ap (λ (f : List ℕ). getD f (w .register) 0) (one-register s w full (l .0))
+    ∙ getD-set-same (s .file) (w .register) _ 0 (omega (arith, full, planned-small (w .register) (l .0))))
+all-change s (w ∷ ws) full l good (suc t) h =
+    all-change (written part24 s (w .register) (w .value)) ws (stays-full s w full (l .0)) (l .2)
+    (λ t h. subst (λ (x : Settings). Good shape24 x ws t) (sym (reads s w full (l .0))) (later (good (suc t) (omega arith)))) t (omega arith)
+  where
+    later : {t : ℕ} → Good shape24 (settingsOf s) (w ∷ ws) (suc t) → Good shape24 (put shape24 (settingsOf s) w) ws t
+    later q = record { known = q .known; byte = q .byte; changes = q .changes }
 
 -- the writes of an orderly list are listed
 pub listed-of : (ws : List Write) → ((i : ℕ) → i < length ws → (placeOf shape24 (nth ws i) < 10) × (nth ws i .value < 256)) → Listed ws
@@ -278,13 +300,12 @@ pub quiet-on : (s : Core) (goal : Settings) (ws : List Write) → length (s .fil
 quiet-on s goal ws full q = record {
   reached = ends s ws full listed ∙ q .reached;
   still = pin;
-  others = others-stay s ws full listed;
 }
   where
     listed : Listed ws
     listed = listed-of ws (λ i h. (q .good i h .known, q .good i h .byte))
 
-    pin : (i : ℕ) → i < 24 → Still s goal ws i
+    pin : (i : ℕ) → i < 24 → Still (afterFirst s ws) goal i
     pin i h =
         let eight : 0 < 8 = omega arith in
         let c = q .calm (i / 8) (i % 8) (div-lt-iff-lt-mul eight .1 h) (mod-lt i eight) in

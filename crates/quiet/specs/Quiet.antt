@@ -10,7 +10,7 @@ use Rattle.pins.specs.AllPins.{Within}
 use Rattle.pins.specs.OnePin.{driveOf, statusOf}
 use Rattle.map.specs.Map.{part24, fileFits}
 use Rattle.registers.specs.Registers.{Core, onePin, written}
-use Rattle.quiet.specs.Settings.{shape24, Settings, PinBits, bitsOf, driveIn, Write, place}
+use Rattle.quiet.specs.Settings.{shape24, Settings, PinBits, bitsOf, driveIn, Write, place, nth}
 
 -- what the registers of a list hold
 abbrev pub readAll : List ℕ → List ℕ → List ℕ
@@ -52,22 +52,31 @@ statusAt s i = statusOf (onePin part24 s i)
 abbrev pub bitsAt : Settings → ℕ → PinBits
 bitsAt g i = bitsOf shape24 g (i / 8) (i % 8)
 
--- Pin i along the list. After every write its drive is its start's or its goal's; two moments at which it changes are one;
--- and an input at both ends stays one, its status bit what it was before the first write.
-pub record Still (s : Core) (goal : Settings) (ws : List Write) (i : ℕ) : Type 0 where
-  pub either : (t : ℕ) → (driveAt (afterFirst s ws t) i ≡ driveAt s i) ⊎ (driveAt (afterFirst s ws t) i ≡ driveIn (bitsAt goal i))
+-- Pin i along a course of moments, of which moment 0 is the start. At every moment its drive is its start's or its goal's; two moments at
+-- which it changes are one; and an input at both ends stays one, its status bit what it was at the start.
+pub record Still (course : ℕ → Core) (goal : Settings) (i : ℕ) : Type 0 where
+  pub either : (t : ℕ) → (driveAt (course t) i ≡ driveAt (course 0) i) ⊎ (driveAt (course t) i ≡ driveIn (bitsAt goal i))
   pub once : (a b : ℕ)
-      → (driveAt (afterFirst s ws a) i ≡ driveAt (afterFirst s ws (suc a)) i → ⊥)
-      → (driveAt (afterFirst s ws b) i ≡ driveAt (afterFirst s ws (suc b)) i → ⊥)
+      → (driveAt (course a) i ≡ driveAt (course (suc a)) i → ⊥)
+      → (driveAt (course b) i ≡ driveAt (course (suc b)) i → ⊥)
       → a ≡ b
-  pub input : inputAt s i ≡ true → bitsAt goal i .configuration ≡ true
-      → (t : ℕ) → (inputAt (afterFirst s ws t) i ≡ true) × (statusAt (afterFirst s ws t) i ≡ statusAt s i)
+  pub input : inputAt (course 0) i ≡ true → bitsAt goal i .configuration ≡ true
+      → (t : ℕ) → (inputAt (course t) i ≡ true) × (statusAt (course t) i ≡ statusAt (course 0) i)
 
--- on the device whose registers and pins are s: the goal is reached, every pin is still, and no other register is touched
+-- on the device whose registers and pins are s: the goal is reached, and every pin is still from write to write
 pub record QuietOn (s : Core) (goal : Settings) (ws : List Write) : Type 0 where
   pub reached : settingsOf (writes s ws) ≡ goal
-  pub still : (i : ℕ) → i < 24 → Still s goal ws i
-  pub others : (n : ℕ) → (isPlanned n → ⊥) → (t : ℕ) → getD (afterFirst s ws t .file) n 0 ≡ getD (s .file) n 0
+  pub still : (i : ℕ) → i < 24 → Still (afterFirst s ws) goal i
+
+-- write t changes its register: the register holds something else after it
+abbrev pub Changing : Core → List Write → Type 0
+Changing s ws =
+    (t : ℕ) → t < length ws
+    → getD (afterFirst s ws t .file) (nth ws t .register) 0 ≡ getD (afterFirst s ws (suc t) .file) (nth ws t .register) 0 → ⊥
+
+-- no register outside the ten is touched
+abbrev pub Sparing : Core → List Write → Type 0
+Sparing s ws = (n : ℕ) → (isPlanned n → ⊥) → (t : ℕ) → getD (afterFirst s ws t .file) n 0 ≡ getD (s .file) n 0
 
 -- registers and pins that a well-formed device may have
 pub record Formed (s : Core) : Type 0 where
@@ -75,6 +84,9 @@ pub record Formed (s : Core) : Type 0 where
   pub fits : fileFits part24 (s .file) ≡ true
   pub within : Within 24 (s .sets)
 
--- whatever the rest of the state is
+-- on every device that stands at the start, whatever the rest of its state
+abbrev pub OnAll : (start : Settings) → (Core → Type 0) → Type 0
+OnAll start P = (s : Core) → Formed s → settingsOf s ≡ start → P s
+
 abbrev pub Quiet : (start goal : Settings) → List Write → Type 0
-Quiet start goal ws = (s : Core) → Formed s → settingsOf s ≡ start → QuietOn s goal ws
+Quiet start goal ws = OnAll start (λ s. QuietOn s goal ws)

@@ -64,8 +64,3 @@ needed p s (w ∷ ws) =
 
 unfoldable pub planOf : Shape → (start goal : Settings) → List Write
 planOf p start goal = needed p start (route p start goal)
-
--- A plan as bytes: register, value, register, value.
-abbrev pub bytesOf : List Write → List ℕ
-bytesOf [] = []
-bytesOf (w ∷ ws) = w .register ∷ w .value ∷ bytesOf ws

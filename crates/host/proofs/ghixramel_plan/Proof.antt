@@ -14,8 +14,8 @@ same-length c = search needs
 
 returns : tie.Need-returns
 returns c =
-    let said = c .before .before .before .before .plan .ensures in
-    plan-told (said .1) (said .0) (c .tell-plan .ensures .0) (c .tell-plan .ensures .1)
+    let planned = c .before .before .before .before .plan in
+    plan-told (planned .result) (planned .ensures .1) (planned .ensures .0) (c .tell-plan .ensures .0) (c .tell-plan .ensures .1)
 
 pub ghixramel-plan-spec : {M : Type 1} → statement M
 ghixramel-plan-spec = tie.close (tie.spec plan-requires tell-plan-requires same-length returns)

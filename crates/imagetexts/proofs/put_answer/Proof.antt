@@ -45,8 +45,11 @@ returns : tie.Need-returns
 returns c =
     let p = c .before .before in
     let l = p .before .before .before .before .before in
-    let h = l .before .before in
-    let e = told-line _ _ _ _ _ (h .before .before .int .ensures) (h .before .low .ensures) (h .high .ensures) in (
+    let high = l .before .before in
+    let low = high .before .before in
+    let int = low .before .before in
+    let x = int .before .before .before .before .args .d .sets in
+    let e = told-line _ _ _ _ _ (int .int .ensures) (low .low .ensures x) (high .high .ensures x) in (
       wrote-as (part-is _ _ _ _ (l .put-line .ensures) (search needs) ∙ ap unended e) (p .put .ensures),
       omega (arith, p .put .ensures .ends, part-short _ _ _ _ (l .put-line .ensures)),
     )

@@ -6,7 +6,7 @@ use lib.ListN.{length, getD}
 use Rattle.bits.proofs.Laws.{tabulated}
 use Rattle.quiet.specs.Settings.{Settings}
 use Rattle.quiet.proofs.Blocked.{both}
-use Rattle.promises.specs.Answer.{formed}
+use Rattle.promises.specs.Formed.{formed}
 use Rattle.promises.proofs.Answering.{fails, holds, whole, kinds}
 use Rattle.halfway.proofs.Ports.{stuck-bit}
 use Rattle.planner.proofs.stuck_pins.Statement.{statement}
