@@ -167,7 +167,7 @@ module _ (s : State) (g : WellFormed s) where
     full = written-file (kindAt part24 (s .pointer)) refl b .1;
   }
 
-  fetch-keeps : (acknowledged : Bool) → WellFormed (fetchIn part24 Sending s acknowledged .after)
+  pub fetch-keeps : (acknowledged : Bool) → WellFormed (fetchIn part24 Sending s acknowledged .after)
   unfolding fetchIn fetched
   fetch-keeps true = record {
     sound = record {

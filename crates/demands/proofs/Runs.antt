@@ -1,8 +1,9 @@
 -- Runs from power-on: never refused for the image, and the code's run is the specification's. Assumes nothing.
-use mathlib.Core.Path.{_≡_, refl, ap, ap₂, _∙_}
+use mathlib.Core.Path.{_≡_, refl, sym, ap, ap₂, subst, _∙_}
 use mathlib.Core.Bool.{Bool, true, false, cond, not, _&&_}
-use mathlib.Core.List.{List, [], _∷_}
+use mathlib.Core.List.{List, [], _∷_, _++_}
 use Prim.Native.Nat.{ℕ, _+_, _^_, _<_}
+use native.Mathlib.Omega.{arith}
 use lib.Dec.{eqb, leb}
 use Rattle.bits.proofs.Decide.{either-arm}
 use Rattle.map.specs.Map.{part24, reserved}
@@ -13,12 +14,12 @@ use Rattle.bus.specs.Device.Bus.{Idle, Opened, Chosen, Filling, Sending, Call, 
 use Rattle.bus.specs.Device.Event.{Start, Stop, HardwareReset, ByteSent, ByteFetched, Levels}
 use Rattle.bus.specs.Answers.{refusalNumber}
 use Rattle.bus.specs.declared.Answer.{Answer}
-use Rattle.bus.specs.declared.Answer.the-variants.{Refused}
+use Rattle.bus.specs.declared.Answer.the-variants.{Nothing, Refused}
 use Rattle.refusals.specs.PowerOn.{powerOn}
 use Rattle.device.specs.Held.{stateIn}
 use Rattle.device.specs.declared.Device.{Device}
-use Rattle.device.specs.declared.Stepped.{Stepped}
-use Rattle.demands.specs.Run.{Asked, Seen, seen, after, run, answers, runWith}
+use Rattle.device.specs.Asked.{driven, line}
+use Rattle.demands.specs.Run.{Asked, seen, seenFrom, run, answers, Functions, Said, said, saidFrom, runWith, unrefused, Represented, Askable, Contracts}
 use Rattle.demands.proofs.Keeps.{WellFormed, image-of, stepped-keeps, power-on-fits}
 
 -- ---- a step answers, and does not refuse
@@ -47,7 +48,7 @@ fetch-answers Call s acknowledged = refl
 fetch-answers Armed s acknowledged = refl
 fetch-answers Deaf s acknowledged = refl
 
-step-answers : (s : State) (e : Event) → Answers (step part24 s e)
+pub step-answers : (s : State) (e : Event) → Answers (step part24 s e)
 unfolding step
 step-answers s Start = refl
 step-answers s Stop = refl
@@ -84,18 +85,38 @@ pub never-refused-for-image : (choice levels : ℕ) → choice < 4 → levels < 
     → noneBroken (answers part24 (powerOn part24 choice levels) es) ≡ true
 never-refused-for-image choice levels hc hl es = run-unbroken (powerOn part24 choice levels) (power-on-fits choice levels hc hl) es
 
--- ---- any functions with the contracts of `Device::step`, `Device::low`, `Device::high` and `Device::int` run as the specification does
-module _ (stepOf : Device → ℕ → ℕ → Stepped) (low high : Device → ℕ) (int : Device → Bool)
-    (steps : (d : Device) (kind arg : ℕ) → out (stepOf d kind arg .answer) (stateIn (stepOf d kind arg .device)) ≡ stepped part24 (stateIn d) kind arg)
-    (lows : (d : Device) → low d ≡ drivenLow part24 (stateIn d .regs)) (highs : (d : Device) → high d ≡ drivenHigh part24 (stateIn d .regs))
-    (ints : (d : Device) → int d ≡ intAsserted part24 (stateIn d .regs)) where
-  pub run-follows : (d : Device) (es : List Asked) → runWith stepOf low high int d es ≡ run part24 (stateIn d) es
-  unfolding run runWith
-  run-follows d [] = refl
-  run-follows d (e ∷ es) =
-      let o = stepOf d (e .kind) (e .arg) in
-      let q = steps d (e .kind) (e .arg) in
-      ap₂ (λ (x : Seen) (xs : List Seen). x ∷ xs)
-      (λ j. record { answer = o .answer; low = lows (o .device) j; high = highs (o .device) j; int = ints (o .device) j })
-      (run-follows (o .device) es)
-      ∙ ap (λ (o : Outcome). seen part24 o ∷ run part24 (o .after) es) q
+-- ---- any functions with the contracts of `Device::power_on`, `step`, `low`, `high` and `int`, as the code has them, say from power-on on what the rules' run sees,
+-- and none of the questions is ever refused
+module _ (f : Functions) (c : Contracts f) where
+  said-seen : (d : Device) → Represented d → WellFormed (stateIn d) → (answer : Answer) → said f answer d ∷ [] ≡ unrefused (seen part24 (out answer (stateIn d)) ∷ [])
+  said-seen d r g answer =
+      let fits = image-of (stateIn d) (g .sound) in
+      let low : f .low d ≡ driven 0 (drivenLow part24 (stateIn d .regs)) = c .low d r ∙ simp fits in
+      let high : f .high d ≡ driven 0 (drivenHigh part24 (stateIn d .regs)) = c .high d r ∙ simp fits in
+      let int : f .int d ≡ line 0 (intAsserted part24 (stateIn d .regs)) = c .int d r ∙ simp fits in
+      λ j. record { answer = answer; low = low j; high = high j; int = int j } ∷ []
+
+  follows : (d : Device) → Represented d → (s : State) → WellFormed s → stateIn d ≡ s → (es : List Asked) → Askable es
+      → saidFrom f d es ≡ unrefused (seenFrom part24 s es)
+  unfolding saidFrom seenFrom
+  follows d r s g e [] a = refl
+  follows d r s g e (q ∷ es) a =
+      let o = f .step d (q .kind) (q .arg) in
+      let t = c .step d r (q .kind) (q .arg) (a .0) (a .1) in
+      let same : out (o .answer) (stateIn (o .device)) ≡ stepped part24 s (q .kind) (q .arg) = t .0 ∙ ap (λ (s : State). stepped part24 s (q .kind) (q .arg)) e in
+      let kept = stepped-keeps s g (q .kind) (q .arg) in
+      let state : stateIn (o .device) ≡ stepped part24 s (q .kind) (q .arg) .after = ap (λ (o : Outcome). o .after) same in
+      ap₂ (λ (x xs : List Said). x ++ xs)
+      (said-seen (o .device) (t .1) (subst WellFormed (sym state) kept) (o .answer) ∙ ap (λ (o : Outcome). unrefused (seen part24 o ∷ [])) same)
+      (follows (o .device) (t .1) (stepped part24 s (q .kind) (q .arg) .after) kept state es (a .2))
+
+  pub run-follows : (choice levels : ℕ) → choice < 4 → levels < 2 ^ 24 → (es : List Asked) → Askable es
+      → runWith f choice levels es ≡ unrefused (run part24 choice levels es)
+  run-follows choice levels hc hl es a =
+      let m = c .power-on choice levels (omega (arith, hc)) (omega (arith, hl)) in
+      let d = f .power-on choice levels .device in
+      let s = powerOn part24 choice levels in
+      let g = power-on-fits choice levels hc hl in
+      ap₂ (λ (x xs : List Said). x ++ xs)
+      (said-seen d (m .1) (subst WellFormed (sym (m .0 .made)) g) Nothing ∙ ap (λ (s : State). unrefused (seen part24 (out Nothing s) ∷ [])) (m .0 .made))
+      (follows d (m .1) s g (m .0 .made) es a)

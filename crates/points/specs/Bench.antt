@@ -81,6 +81,11 @@ abbrev pub port0 : (output configuration portKind pinKind : ℕ) → Settings
 port0 output configuration portKind pinKind =
     output ∷ 0xff ∷ 0xff ∷ configuration ∷ 0xff ∷ 0xff ∷ portKind ∷ pinKind ∷ 0x00 ∷ 0x00 ∷ []
 
+-- settings that are alike in every port
+abbrev pub alike : (output configuration portKinds pinKind : ℕ) → Settings
+alike output configuration portKinds pinKind =
+    output ∷ output ∷ output ∷ configuration ∷ configuration ∷ configuration ∷ portKinds ∷ pinKind ∷ pinKind ∷ pinKind ∷ []
+
 -- the command n and one data byte: the pointer has stepped once
 abbrev pub steppedFrom : ℕ → List Asked
 steppedFrom n = START ∷ toWrite 0 ∷ sent n ∷ sent 0x00 ∷ []
@@ -118,6 +123,8 @@ cases =
     ∷ planned (port0 0xfe 0xfe 0x00 0x00) (port0 0xfe 0xfe 0x01 0x01) 32 countIs 2
     -- pin 0 from driven high to input with output 0, pin 1 the reverse: three writes
     ∷ planned (port0 0xfd 0xfe 0x00 0x00) (port0 0xfe 0xfd 0x00 0x00) 32 countIs 3
+    -- in each port pin 0 from high to low and pin 1 from low to released, every port and each pin 0 turned open-drain: sixteen writes, the bound
+    ∷ planned (alike 0x01 0xfc 0x00 0x00) (alike 0x02 0xfc 0x07 0x01) 32 countIs 16
     -- a buffer of 32 bytes passes, one of 31 does not, however short the plan; and a malformed goal comes first
     ∷ planned (port0 0xff 0xff 0x00 0x00) (port0 0xff 0xff 0x00 0x00) 32 refusalIs 0
     ∷ planned (port0 0xff 0xff 0x00 0x00) (port0 0xff 0xff 0x00 0x00) 31 refusalIs 6
