@@ -1,5 +1,5 @@
 -- What is known of a word that a text begins with, of a field and of a line. Assumes nothing.
-use mathlib.Core.Path.{_≡_, refl}
+use mathlib.Core.Path.{_≡_, refl, _∙_}
 use mathlib.Core.Bool.{Bool, true, false, cond}
 use mathlib.Core.List.{List, [], _∷_}
 use Prim.Native.Nat.{ℕ, _-_, _<_, _≤_}
@@ -14,7 +14,7 @@ use Rattle.text.specs.declared.Digits.the-variants.{Number, None}
 use Rattle.text.proofs.Laws.{starts-short}
 use Rattle.text.specs.Text.{startsWith, isWord, fieldOf, numberOf, upTo}
 use Rattle.lines.specs.declared.Line.the-variants.{Event, Unreadable}
-use Rattle.lines.specs.Lines.{lineOf, fieldsOf, deviceOf, eventWith, deviceWith, start, stop, reset, byte, fetch, pins, device, tab, Small, Makes}
+use Rattle.lines.specs.Lines.{lineOf, fieldsOf, deviceOf, eventWith, deviceWith, start, stop, reset, byte, fetch, pins, device, tab, Small, Taken, Means}
 
 no-digits : (most : ℕ) → Small most None
 no-digits most = record { small = λ n e. let z : _≡_ {A = ℕ} 0 1 = cc in absurd (omega arith) }
@@ -35,47 +35,71 @@ field-small count most text = go (eqb (length text) count)
     go true = up-to most (numberOf 0 text)
     go false = no-digits most
 
-none : Makes Unreadable
-none = record { makes = λ c l e. let z : _≡_ {A = ℕ} 0 1 = cc in absurd (omega arith) }
+none : Means Unreadable
+none = record {
+  makes = λ c l e. (let z : _≡_ {A = ℕ} 0 1 = cc in absurd (omega arith));
+  takes = λ k a e. (let z : _≡_ {A = ℕ} 0 1 = cc in absurd (omega arith));
+}
 
-plain : (kind arg : ℕ) → Makes (Event kind arg)
-plain kind arg = record { makes = λ c l e. let z : _≡_ {A = ℕ} 0 1 = cc in absurd (omega arith) }
+event : (kind arg : ℕ) → Taken kind arg → Means (Event kind arg)
+event kind arg t = record {
+  makes = λ c l e. (let z : _≡_ {A = ℕ} 0 1 = cc in absurd (omega arith));
+  takes = λ k a e. (
+      let p : kind ≡ k = cc in
+      let q : arg ≡ a = cc in
+      (omega (arith, t .0), λ z. omega (arith, t .1 (p ∙ z)), λ z. omega (arith, t .2 (p ∙ z)), λ z. omega (arith, t .3 (p ∙ z))));
+}
 
-event : (kind : ℕ) (d : Digits) → Makes (eventWith kind d)
-event kind (Number n) = plain kind n
-event kind None = none
+-- a kind without an argument
+plain : (kind : ℕ) → kind ≤ 5 → (kind ≡ 2 → ⊥) → (kind ≡ 3 → ⊥) → (kind ≡ 4 → ⊥) → Means (Event kind 0)
+plain kind h two three four = event kind 0 (h, λ z. absurd (two z), λ z. absurd (three z), λ z. absurd (four z))
 
-made : (c l : Digits) → Small 3 c → Small 0xffffff l → Makes (deviceWith c l)
+byte-means : (d : Digits) → Small 0xff d → Means (eventWith 2 d)
+byte-means (Number n) b = event 2 n (omega arith, λ z. b .small n refl, λ z. absurd (omega (arith, z)), λ z. absurd (omega (arith, z)))
+byte-means None b = none
+
+fetch-means : (d : Digits) → Small 1 d → Means (eventWith 3 d)
+fetch-means (Number n) b = event 3 n (omega arith, λ z. absurd (omega (arith, z)), λ z. b .small n refl, λ z. absurd (omega (arith, z)))
+fetch-means None b = none
+
+pins-mean : (d : Digits) → Small 0xffffff d → Means (eventWith 4 d)
+pins-mean (Number n) b = event 4 n (omega arith, λ z. absurd (omega (arith, z)), λ z. absurd (omega (arith, z)), λ z. b .small n refl)
+pins-mean None b = none
+
+made : (c l : Digits) → Small 3 c → Small 0xffffff l → Means (deviceWith c l)
 made (Number c) (Number l) a b =
     record {
-      makes = λ choice levels e.
+      makes = λ choice levels e. (
           let p : c ≡ choice = cc in
           let q : l ≡ levels = cc in
-          (omega (arith, a .small c refl), omega (arith, b .small l refl));
+          (omega (arith, a .small c refl), omega (arith, b .small l refl)));
+      takes = λ k g e. (let z : _≡_ {A = ℕ} 0 1 = cc in absurd (omega arith));
     }
 made (Number c) None a b = none
 made None l a b = none
 
-device-makes : (s : List ℕ) → Makes (deviceOf s)
+device-means : (s : List ℕ) → Means (deviceOf s)
 unfolding deviceOf
-device-makes s =
-    either-arm Makes (startsWith tab (drop 1 s))
+device-means s =
+    either-arm Means (startsWith tab (drop 1 s))
     (made (fieldOf 1 3 (take 1 s)) (fieldOf 6 0xffffff (drop 2 s)) (field-small 1 3 (take 1 s)) (field-small 6 0xffffff (drop 2 s)))
     none
 
-fields-make : (s : List ℕ) → Makes (fieldsOf s)
+fields-mean : (s : List ℕ) → Means (fieldsOf s)
 unfolding fieldsOf
-fields-make s =
-    either-arm Makes (startsWith byte s) (event 2 (fieldOf 2 0xff (drop 5 s)))
-    (either-arm Makes (startsWith fetch s) (event 3 (fieldOf 1 1 (drop 6 s)))
-    (either-arm Makes (startsWith pins s) (event 4 (fieldOf 6 0xffffff (drop 5 s))) (either-arm Makes (startsWith device s) (device-makes (drop 7 s)) none)))
+fields-mean s =
+    either-arm Means (startsWith byte s) (byte-means (fieldOf 2 0xff (drop 5 s)) (field-small 2 0xff (drop 5 s)))
+    (either-arm Means (startsWith fetch s) (fetch-means (fieldOf 1 1 (drop 6 s)) (field-small 1 1 (drop 6 s)))
+    (either-arm Means (startsWith pins s) (pins-mean (fieldOf 6 0xffffff (drop 5 s)) (field-small 6 0xffffff (drop 5 s))) (either-arm Means (startsWith device s) (device-means (drop 7 s)) none)))
 
--- a device line that can be read is one of a device that can be made
-pub line-makes : (s : List ℕ) → Makes (lineOf s)
+-- a device line that can be read is one of a device that can be made, and an event line is one of an event that is not refused for its kind or its argument
+pub line-means : (s : List ℕ) → Means (lineOf s)
 unfolding lineOf
-line-makes s =
-    either-arm Makes (ltb 32 (length s)) none
-    (either-arm Makes (isWord start s) (plain 0 0) (either-arm Makes (isWord stop s) (plain 1 0) (either-arm Makes (isWord reset s) (plain 5 0) (fields-make s))))
+line-means s =
+    either-arm Means (ltb 32 (length s)) none
+    (either-arm Means (isWord start s) (plain 0 (omega arith) (λ z. omega (arith, z)) (λ z. omega (arith, z)) (λ z. omega (arith, z)))
+    (either-arm Means (isWord stop s) (plain 1 (omega arith) (λ z. omega (arith, z)) (λ z. omega (arith, z)) (λ z. omega (arith, z)))
+    (either-arm Means (isWord reset s) (plain 5 (omega arith) (λ z. omega (arith, z)) (λ z. omega (arith, z)) (λ z. omega (arith, z))) (fields-mean s))))
 
 -- a text is as long as a word that it begins with
 pub starts-long : (word text : List ℕ) → startsWith word text ≡ true → length word ≤ length text

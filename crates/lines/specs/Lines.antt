@@ -67,6 +67,11 @@ lineOf s =
 pub record Small (most : ℕ) (d : Digits) : Type 0 where
   pub small : (n : ℕ) → d ≡ Number n → n ≤ most
 
--- if it is a device's line, the device can be made
-pub record Makes (l : Line) : Type 0 where
+-- what an argument of the kind may be at most, where the kind has one
+abbrev pub Taken : (kind arg : ℕ) → Type 0
+Taken kind arg = (kind ≤ 5) × (kind ≡ 2 → arg ≤ 0xff) × (kind ≡ 3 → arg ≤ 1) × (kind ≡ 4 → arg ≤ 0xffffff)
+
+-- if it is a device's line, the device can be made; if it is an event's, the event is not refused for its kind or its argument
+pub record Means (l : Line) : Type 0 where
   pub makes : (choice levels : ℕ) → l ≡ Device choice levels → (choice ≤ 3) × (levels ≤ 0xffffff)
+  pub takes : (kind arg : ℕ) → l ≡ Event kind arg → Taken kind arg

@@ -4,7 +4,7 @@ use mathlib.Core.Bool.{Bool, true, false, cond}
 use mathlib.Core.List.{List, [], _∷_, _++_}
 use Prim.Native.Nat.{ℕ, _+_, _-_, _*_, _<_, _≤_}
 use native.Mathlib.Omega.{arith}
-use borrow.Author.Tests.{eq-eqb, ne-eqb, lt-ltb, le-ltb, ltb-true}
+use borrow.Author.Tests.{lt-ltb, le-ltb, ltb-true}
 use lib.Dec.{eqb, ltb}
 use lib.ListN.{length, take, drop, length-take, length-drop}
 use Rattle.text.specs.Text.{Wrote}
@@ -12,12 +12,12 @@ use Rattle.text.proofs.Laws.{wrote-as, wrote-both, wrote-nothing, wrote-length}
 use Rattle.pieces.specs.Pieces.{newlineAt}
 use Rattle.lines.specs.Lines.{lineOf}
 use Rattle.lines.proofs.Laws.{rest as tail}
-use Rattle.tracing.specs.Tracing.{Session, traced, sessionOf, Says}
+use Rattle.tracing.specs.Tracing.{Session, traced, sessionOf, Says, Untouched}
 use Rattle.tracing.specs.declared.Desk.{Desk}
 use Rattle.tracing.proofs.Laws.{says-as, traced-short}
 use Rattle.logs.specs.declared.Reader.{Reader}
-use Rattle.logs.specs.Pieces.{Reading, Given, readingOf, grown, answerOf, ended, andThen, given, takenOf, firstGiven, Gives, lastText}
-use Rattle.logs.proofs.Laws.{given-first, line-take}
+use Rattle.logs.specs.Pieces.{Reading, Given, readingOf, grown, answerOf, ended, andThen, given, takenOf, firstGiven, Gives, Ends}
+use Rattle.logs.proofs.Laws.{given-first, line-take, end-none, end-line}
 
 -- the first line of a piece, or all of it
 module _ (r : Reading) (piece : List ℕ) (n : ℕ) (found : n ≡ newlineAt piece) where
@@ -58,29 +58,31 @@ module _ (file held : List ℕ) (r : Reader) where
   part-is : take (r .len - 0) held ≡ take (r .len) held
   part-is = let e : r .len - 0 ≡ r .len = omega arith in ap (λ (k : ℕ). take k held) e
 
-  pub last-none : length (take (r .len - 0) held) ≡ 0 → (out : List ℕ) (at : ℕ) → Wrote out at (lastText (readingOf file held r)) at out
-  unfolding lastText
-  last-none z out at = rw (eq-eqb (length (take (r .len) held)) 0 (rw part-is at z)) (wrote-nothing out at)
+  pub last-none : length (take (r .len - 0) held) ≡ 0 → (out : List ℕ) (at : ℕ) → at + 26 ≤ length out → Ends (readingOf file held r) out at at out file (r .desk)
+  last-none z out at room =
+      let e = end-none (readingOf file held r) (rw part-is at z) in
+      record { wrote = wrote-as (sym (ap (λ (g : Given). g .text) e)) (wrote-nothing out at); goes-on = sym (ap (λ (g : Given). g .after .session) e); within = omega arith }
 
-  pub last-line : (length (take (r .len - 0) held) ≡ 0 → ⊥) → {out left after : List ℕ} {at end : ℕ} {d : Desk}
-      → Says (traced (sessionOf file (r .desk)) (lineOf (take (r .len - 0) held))) out at end left after d → Wrote out at (lastText (readingOf file held r)) end left
-  unfolding lastText
-  last-line some s =
-      rw (ne-eqb (length (take (r .len) held)) 0 (rw part-is at some))
-      (wrote-as (ap (λ (x : List ℕ). traced (sessionOf file (r .desk)) (lineOf x) .line) part-is) (s .says))
-
-  last-short : length (lastText (readingOf file held r)) ≤ 20
-  unfolding lastText
-  last-short = go (eqb (length (take (r .len) held)) 0)
-    where
-      go : (t : Bool) → length (cond t [] (ended (readingOf file held r) .text)) ≤ 20
-      go true = omega arith
-      go false = traced-short (sessionOf file (r .desk)) (lineOf (take (r .len) held))
-
-  pub last-fits : {out left : List ℕ} {at end : ℕ} → Wrote out at (lastText (readingOf file held r)) end left → at + 26 ≤ length out → end ≤ length left
-  last-fits w h = omega (arith, w .ends, wrote-length w, last-short)
+  pub last-line : (length (take (r .len - 0) held) ≡ 0 → ⊥) → {out left after : List ℕ} {at end : ℕ} {d : Desk} → at + 26 ≤ length out
+      → Says (traced (sessionOf file (r .desk)) (lineOf (take (r .len - 0) held))) out at end left after d → Ends (readingOf file held r) out at end left after d
+  last-line some {out} {left} {after} {at} {end} {d} room s =
+      let e = end-line (readingOf file held r) (rw part-is at some) in
+      let t : Says (answerOf (readingOf file held r)) out at end left after d =
+      says-as (ap (λ (x : List ℕ). traced (sessionOf file (r .desk)) (lineOf x)) part-is) s in
+      record {
+        wrote = wrote-as (sym (ap (λ (g : Given). g .text) e)) (t .says);
+        goes-on = t .goes-on ∙ sym (ap (λ (g : Given). g .after .session) e);
+        within = omega (arith, t .says .ends, wrote-length (t .says), traced-short (sessionOf file (r .desk)) (lineOf (take (r .len) held)));
+      }
 
 -- ---- the loop over a piece's lines
+-- what was untouched by one line and by the next is untouched by both
+pub untouched-then : {file₀ file file′ : List ℕ} {d₀ d d′ : Desk} → Untouched file₀ d₀ file d → Untouched file d file′ d′ → Untouched file₀ d₀ file′ d′
+untouched-then u v none =
+    let here = v none in
+    let before = u (ap (λ (d : Desk). d .has) (sym (here .1)) ∙ none) in
+    (here .0 ∙ before .0, here .1 ∙ before .1)
+
 first-short : (r : Reading) (piece : List ℕ) → length (firstGiven r piece .text) ≤ 20
 unfolding firstGiven
 first-short r piece = go (ltb (newlineAt piece) (length piece))

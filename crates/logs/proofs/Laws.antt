@@ -4,14 +4,14 @@ use mathlib.Core.Bool.{Bool, true, false, cond}
 use mathlib.Core.List.{List, [], _∷_, _++_, append-assoc, append-nil}
 use Prim.Native.Nat.{ℕ, suc, _+_, _<_, _≤_}
 use native.Mathlib.Omega.{arith}
-use borrow.Author.Tests.{lt-ltb, ltb-true, ltb-false}
+use borrow.Author.Tests.{eq-eqb, ne-eqb, lt-ltb, ltb-true, ltb-false}
 use lib.Dec.{eqb, ltb}
 use lib.ListN.{length, take, drop, length-take}
 use lib.Seq.{drop-length, take-all, length-take-le}
 use Rattle.pieces.specs.Pieces.{newlineAt}
 use Rattle.pieces.proofs.Laws.{take-again}
 use Rattle.lines.specs.Lines.{lineOf}
-use Rattle.logs.specs.Pieces.{Reading, Given, grown, ended, andThen, given, takenOf, firstGiven}
+use Rattle.logs.specs.Pieces.{Reading, Given, grown, ended, andThen, given, takenOf, firstGiven, atEnd}
 
 grown-twice : (r : Reading) (s t : List ℕ) → grown (grown r s) t ≡ grown r (s ++ t)
 grown-twice r s t =
@@ -83,3 +83,12 @@ line-take s = go (ltb 32 (length s)) refl
         let l : 32 < length s = ltb-true 32 (length s) e in
         rw (lt-ltb 32 (length s) l, length-take-le 33 s (omega arith))
     go false e = let l : length s ≤ 32 = ltb-false 32 (length s) e in ap lineOf (take-all 33 s (omega arith))
+
+-- the end of the log: nothing where no line has begun, else its answer
+pub end-none : (r : Reading) → length (r .begun) ≡ 0 → atEnd r ≡ record { text = []; after = r }
+unfolding atEnd
+end-none r z = simp (eq-eqb (length (r .begun)) 0 z)
+
+pub end-line : (r : Reading) → (length (r .begun) ≡ 0 → ⊥) → atEnd r ≡ ended r
+unfolding atEnd
+end-line r some = simp (ne-eqb (length (r .begun)) 0 some)

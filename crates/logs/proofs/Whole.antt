@@ -4,7 +4,6 @@ use mathlib.Core.Bool.{Bool, true, false, cond}
 use mathlib.Core.List.{List, [], _∷_, _++_, append-assoc, append-nil}
 use Prim.Native.Nat.{ℕ}
 use native.Mathlib.Omega.{arith}
-use borrow.Author.Tests.{ne-eqb}
 use lib.Dec.{eqb}
 use lib.ListN.{length, take, length-take}
 use Rattle.lines.specs.declared.Line.{Line}
@@ -14,7 +13,7 @@ use Rattle.tracing.specs.Tracing.Session.{NoDevice}
 use Rattle.logs.specs.Logs.{header, linesOf, lastLine, answersFrom, answersOf}
 use Rattle.logs.specs.Pieces.{Reading, Given, opened, grown, ended, andThen, given, lastText, joined, givenAll, written}
 use Rattle.pieces.proofs.Laws.{take-again}
-use Rattle.logs.proofs.Laws.{line-take}
+use Rattle.logs.proofs.Laws.{line-take, end-none, end-line}
 
 -- ---- pieces
 then-then : (s t : List ℕ) (g : Given) → andThen s (andThen t g) ≡ andThen (s ++ t) g
@@ -48,11 +47,11 @@ abbrev kept : Session → (begun : List ℕ) → Reading
 kept x begun = record { session = x; begun = take 33 begun }
 
 last-answers : (x : Session) (begun : List ℕ) → lastText (kept x begun) ≡ answersFrom x (lastLine begun)
-unfolding lastText answersFrom
-last-answers x [] = refl
+unfolding answersFrom
+last-answers x [] = ap (λ (g : Given). g .text) (end-none (kept x []) refl)
 last-answers x (b ∷ begun) =
-    rw (ne-eqb (length (take 33 (b ∷ begun))) 0 (λ z. omega (arith, length-take 33 (b ∷ begun), z)), append-nil (traced x (lineOf (b ∷ begun)) .line))
-    (ap (λ (l : Line). traced x l .line) (line-take (b ∷ begun)))
+    ap (λ (g : Given). g .text) (end-line (kept x (b ∷ begun)) (λ z. omega (arith, length-take 33 (b ∷ begun), z)))
+    ∙ ap (λ (l : Line). traced x l .line) (line-take (b ∷ begun)) ∙ sym (append-nil (traced x (lineOf (b ∷ begun)) .line))
 
 all-answers : (log : List ℕ) (x : Session) (begun : List ℕ) → toEnd (given (kept x begun) log) ≡ answersFrom x (linesOf begun log)
 unfolding given linesOf answersFrom

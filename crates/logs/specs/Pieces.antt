@@ -10,6 +10,7 @@ use Rattle.pieces.specs.Pieces.{newlineAt}
 use Rattle.lines.specs.Lines.{lineOf}
 use Rattle.tracing.specs.Tracing.{Session, Traced, traced, sessionOf}
 use Rattle.tracing.specs.Tracing.Session.{NoDevice}
+use Rattle.tracing.specs.declared.Desk.{Desk}
 use Rattle.logs.specs.declared.Reader.{Reader}
 use Rattle.logs.specs.Logs.{header}
 
@@ -67,8 +68,17 @@ pub record Gives (g : Given) (out : List ℕ) (at end : ℕ) (left file held : L
   pub whole : length held ≡ 33
 
 -- at the end of the log: a line that has begun counts
-unfoldable pub lastText : Reading → List ℕ
-lastText r = cond (eqb (length (r .begun)) 0) [] (ended r .text)
+unfoldable pub atEnd : Reading → Given
+atEnd r = cond (eqb (length (r .begun)) 0) (record { text = []; after = r }) (ended r)
+
+abbrev pub lastText : Reading → List ℕ
+lastText r = atEnd r .text
+
+-- its answer written from at on, and what there is after it: in the register file and on the desk
+pub record Ends (r : Reading) (out : List ℕ) (at end : ℕ) (left file : List ℕ) (d : Desk) : Type 0 where
+  pub wrote : Wrote out at (lastText r) end left
+  pub goes-on : sessionOf file d ≡ atEnd r .after .session
+  pub within : end ≤ length left
 
 -- ---- a log that arrives in any pieces
 unfoldable pub joined : (pieces : List (List ℕ)) → List ℕ

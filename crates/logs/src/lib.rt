@@ -4,9 +4,9 @@ ghost use mathlib.Core.List.{List};
 ghost use Prim.Native.Nat.{ℕ, _+_, _*_, _≤_};
 ghost use lib.ListN.{length};
 ghost use Rattle.text.specs.Text.{Wrote};
-ghost use Rattle.tracing.specs.Tracing.{Says};
+ghost use Rattle.tracing.specs.Tracing.{Says, Untouched};
 ghost use Rattle.logs.specs.Logs.{header};
-ghost use Rattle.logs.specs.Pieces.{readingOf, opened, grown, answerOf, given, takenOf, firstGiven, Gives, lastText};
+ghost use Rattle.logs.specs.Pieces.{readingOf, opened, grown, answerOf, given, takenOf, firstGiven, Gives, Ends};
 use bus::Rest;
 use pins::Sets;
 use tracing::Desk;
@@ -28,7 +28,7 @@ pub struct Fed {
 // The line that has begun, with these bytes.
 fn grow(held: &mut [u8; 33], r: Reader, part: &[u8]) -> Reader
     requires { ⌜ r .len ≤ 33 ⌝ }
-    ensures { λ y. ⌜ ((file : List ℕ) → readingOf file (now (held .exit)) y ≡ grown (readingOf file (now (held .entry)) r) (now (part .entry))) × (length (now (held .exit)) ≡ 33) × (y .len ≤ 33) ⌝ }
+    ensures { λ y. ⌜ ((file : List ℕ) → readingOf file (now (held .exit)) y ≡ grown (readingOf file (now (held .entry)) r) (now (part .entry))) × (length (now (held .exit)) ≡ 33) × (y .len ≤ 33) × (y .desk ≡ r .desk) ⌝ }
 {
     let desk = r.desk;
     let len = r.len;
@@ -46,7 +46,8 @@ fn joined_line(
     at: usize,
 ) -> Told
     requires { ⌜ (r .len ≤ 33) × (length (now held) ≡ 33) × (at + 26 ≤ length (now out)) ⌝ }
-    ensures { λ t. ⌜ Says (answerOf (grown (readingOf (now (file .entry)) (now (held .entry)) r) (now (part .entry)))) (now (out .entry)) at (t .end) (now (out .exit)) (now (file .exit)) (t .desk) × (length (now (held .exit)) ≡ 33) ⌝ }
+    ensures { λ t. ⌜ Says (answerOf (grown (readingOf (now (file .entry)) (now (held .entry)) r) (now (part .entry)))) (now (out .entry)) at (t .end) (now (out .exit)) (now (file .exit)) (t .desk)
+        × (length (now (held .exit)) ≡ 33) × Untouched (now (file .entry)) (r .desk) (now (file .exit)) (t .desk) ⌝ }
 {
     let line = grow(held, r, part);
     let desk = line.desk;
@@ -65,7 +66,8 @@ fn end_line(
     at: usize,
 ) -> Told
     requires { ⌜ (r .len ≤ 33) × (length (now held) ≡ 33) × (at + 26 ≤ length (now out)) ⌝ }
-    ensures { λ t. ⌜ Says (answerOf (grown (readingOf (now (file .entry)) (now (held .entry)) r) (now (part .entry)))) (now (out .entry)) at (t .end) (now (out .exit)) (now (file .exit)) (t .desk) × (length (now (held .exit)) ≡ 33) ⌝ }
+    ensures { λ t. ⌜ Says (answerOf (grown (readingOf (now (file .entry)) (now (held .entry)) r) (now (part .entry)))) (now (out .entry)) at (t .end) (now (out .exit)) (now (file .exit)) (t .desk)
+        × (length (now (held .exit)) ≡ 33) × Untouched (now (file .entry)) (r .desk) (now (file .exit)) (t .desk) ⌝ }
 {
     if r.len == 0 {
         let desk = r.desk;
@@ -91,7 +93,8 @@ fn first_line(
     at: usize,
 ) -> Took
     requires { ⌜ (r .len ≤ 33) × (length (now held) ≡ 33) × (at + 26 ≤ length (now out)) ⌝ }
-    ensures { λ t. ⌜ Gives (firstGiven (readingOf (now (file .entry)) (now (held .entry)) r) (now (piece .entry))) (now (out .entry)) at (t .end) (now (out .exit)) (now (file .exit)) (now (held .exit)) (t .reader) × (t .taken ≡ takenOf (now (piece .entry))) ⌝ }
+    ensures { λ t. ⌜ Gives (firstGiven (readingOf (now (file .entry)) (now (held .entry)) r) (now (piece .entry))) (now (out .entry)) at (t .end) (now (out .exit)) (now (file .exit)) (now (held .exit)) (t .reader) × (t .taken ≡ takenOf (now (piece .entry)))
+        × Untouched (now (file .entry)) (r .desk) (now (file .exit)) (t .reader .desk) ⌝ }
 {
     let newline = pieces::newline_at(piece);
     if piece.len() <= newline {
@@ -122,7 +125,8 @@ pub fn feed(
     at: usize,
 ) -> Fed
     requires { ⌜ (reader .len ≤ 33) × (length (now held) ≡ 33) × (at + 20 * length (now piece) + 6 ≤ length (now out)) ⌝ }
-    ensures { λ f. ⌜ Gives (given (readingOf (now (file .entry)) (now (held .entry)) reader) (now (piece .entry))) (now (out .entry)) at (f .end) (now (out .exit)) (now (file .exit)) (now (held .exit)) (f .reader) × (f .end ≤ length (now (out .exit))) ⌝ }
+    ensures { λ f. ⌜ Gives (given (readingOf (now (file .entry)) (now (held .entry)) reader) (now (piece .entry))) (now (out .entry)) at (f .end) (now (out .exit)) (now (file .exit)) (now (held .exit)) (f .reader) × (f .end ≤ length (now (out .exit)))
+        × Untouched (now (file .entry)) (reader .desk) (now (file .exit)) (f .reader .desk) ⌝ }
 {
     let mut rest = piece;
     let mut r = reader;
@@ -166,17 +170,17 @@ pub fn put_header(out: &mut [u8], at: usize) -> usize
     text::put(out, at, b"answer\tint\tlow\thigh\n")
 }
 
-// The end of the log: a last line without newline is answered if it holds a byte. Says where the answer ends.
-pub fn finish(file: &mut [u8; 128], held: &[u8], r: Reader, out: &mut [u8], at: usize) -> usize
+// The end of the log: a last line without newline is answered if it holds a byte. Says what is on the desk then, and where the answer ends.
+pub fn finish(file: &mut [u8; 128], held: &[u8], r: Reader, out: &mut [u8], at: usize) -> Told
     requires { ⌜ (r .len ≤ length (now held)) × (at + 26 ≤ length (now out)) ⌝ }
-    ensures { λ end. ⌜ Wrote (now (out .entry)) at (lastText (readingOf (now (file .entry)) (now (held .entry)) r)) end (now (out .exit)) × (end ≤ length (now (out .exit))) ⌝ }
+    ensures { λ t. ⌜ Ends (readingOf (now (file .entry)) (now (held .entry)) r) (now (out .entry)) at (t .end) (now (out .exit)) (now (file .exit)) (t .desk)
+        × Untouched (now (file .entry)) (r .desk) (now (file .exit)) (t .desk) ⌝ }
 {
     let desk = r.desk;
     let len = r.len;
     let line = &held[0..len];
     if line.len() == 0 {
-        return at;
+        return Told { desk, end: at };
     }
-    let told = tracing::answer_line(file, desk, line, out, at);
-    told.end
+    tracing::answer_line(file, desk, line, out, at)
 }

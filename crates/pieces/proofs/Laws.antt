@@ -8,7 +8,7 @@ use native.Mathlib.Omega.{arith}
 use borrow.Author.Tests.{eq-eqb, ne-eqb, ltb-true, ltb-false}
 use lib.Dec.{ltb}
 use lib.ListN.{length, take, drop, getD, length-append}
-use lib.Seq.{drop-cons, take-all, take-at, take-append-add, length-take-le, sets-eq}
+use lib.Seq.{drop-cons, take-all, take-at, drop-at, take-append-add, length-take-le, sets-eq}
 use Rattle.text.specs.Text.{Wrote}
 use Rattle.text.proofs.Laws.{wrote-as, wrote-length}
 use Rattle.pieces.specs.Pieces.{newlineAt, Kept}
@@ -47,15 +47,19 @@ module _ (held part : List ℕ) (len n : ℕ) (fits : len ≤ length held) (leas
   part-kept {end} {left} v =
       let w : Wrote held len (take n part) end left = wrote-as part-is v in
       let e : length (take len held) + (length held - len) ≡ length held = omega (arith, held-length) in
+      let front : List ℕ = take len held ++ take n part in
+      let ends : length front ≡ end = length-append (take len held) (take n part) ∙ omega (arith, part-length, held-length, w .ends) in
+      let laid : left ≡ front ++ drop (len + length (take n part)) held =
+      w .holds ∙ sets-eq (take n part) held len (omega (arith, part-length)) in
       record {
         long = wrote-length w;
         small = omega (arith, part-length, w .ends);
         kept =
-            ap (take end) (w .holds ∙ sets-eq (take n part) held len (omega (arith, part-length)))
-            ∙ take-at (take len held ++ take n part) (drop (len + length (take n part)) held) end (length-append (take len held) (take n part) ∙ omega (arith, part-length, held-length, w .ends))
+            ap (take end) laid ∙ take-at front (drop (len + length (take n part)) held) end ends
             ∙ ap (λ (x : List ℕ). take len held ++ x) (ap (λ (k : ℕ). take k part) least ∙ take-least (length held - len) part)
             ∙ sym (take-append-add (take len held) part (length held - len))
             ∙ ap (λ (k : ℕ). take k (take len held ++ part)) e;
+        past = ap (drop end) laid ∙ drop-at front (drop (len + length (take n part)) held) end ends ∙ ap (λ (k : ℕ). drop k held) (sym (w .ends));
       }
 
 -- a beginning of a beginning, with more after it

@@ -4,15 +4,16 @@ use mathlib.Core.Bool.{cond}
 use mathlib.Core.List.{List, [], _∷_, _++_}
 use Prim.Native.Nat.{ℕ, suc, _≤_}
 use lib.Dec.{eqb}
-use lib.ListN.{length, take}
+use lib.ListN.{length, take, drop}
 
 -- where the first newline stands, or the length
 unfoldable pub newlineAt : List ℕ → ℕ
 newlineAt [] = 0
 newlineAt (b ∷ piece) = cond (eqb b 0x0a) 0 (suc (newlineAt piece))
 
--- of a memory whose first len bytes are in use, what is in use after a part is added: as much of it as there is room for
+-- of a memory whose first len bytes are in use, what is in use after a part is added: as much of it as there is room for; the bytes past it stay
 pub record Kept (held : List ℕ) (len : ℕ) (part : List ℕ) (end : ℕ) (left : List ℕ) : Type 0 where
   pub long : length left ≡ length held
   pub small : end ≤ length held
   pub kept : take end left ≡ take (length held) (take len held ++ part)
+  pub past : drop end left ≡ drop end held

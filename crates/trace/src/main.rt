@@ -21,7 +21,8 @@ fn main() {
         let got = libc::read(0, &mut piece);
         let n = io::count(got, &piece);
         if n == 0 {
-            let end = logs::finish(&mut file, &held, reader, &mut out, 0);
+            let told = logs::finish(&mut file, &held, reader, &mut out, 0);
+            let end = told.end;
             io::write_all(STDOUT_FILENO, &out[0..end]);
             return;
         }

@@ -1,11 +1,12 @@
 -- What the code's cases say of a line. Assumes nothing.
-use mathlib.Core.Path.{_≡_}
-use mathlib.Core.Bool.{true, false}
+use mathlib.Core.Path.{_≡_, refl, sym, ap, _∙_}
+use mathlib.Core.Bool.{Bool, true, false, cond}
 use mathlib.Core.List.{List}
 use Prim.Native.Nat.{ℕ, _≤_}
 use lib.ListN.{length}
 use Rattle.map.specs.Map.{part24}
-use Rattle.bus.specs.Device.{Outcome, out}
+use Rattle.bits.proofs.Decide.{clash}
+use Rattle.bus.specs.Device.{State, Outcome, out}
 use Rattle.bus.specs.Held.{stateOf}
 use Rattle.bus.specs.declared.Answer.the-variants.{Nothing, Refused}
 use Rattle.refusals.specs.Refusals.{stepped}
@@ -17,11 +18,21 @@ use Rattle.answers.specs.Answers.{answerLine}
 use Rattle.answers.proofs.Laws.{line-short, told-short}
 use Rattle.tracing.specs.declared.Desk.{Desk}
 use Rattle.tracing.specs.Tracing.Session.{NoDevice, With}
-use Rattle.tracing.specs.Tracing.{Session, Traced, sessionOf, told, unreadable, traced, Says}
+use Rattle.tracing.specs.Tracing.{Session, Traced, sessionOf, told, unreadable, traced, Says, Untouched}
 
 -- what is said may be said in another way
 pub says-as : {t u : Traced} {out : List ℕ} {at end : ℕ} {left file : List ℕ} {d : Desk} → t ≡ u → Says t out at end left file d → Says u out at end left file d
 says-as e s = rw e at s
+
+-- where a line leaves a device, there is one
+pub with-device : {t : Traced} {s : State} {out : List ℕ} {at end : ℕ} {left file : List ℕ} {d : Desk} → t .after ≡ With s → Says t out at end left file d
+    → {file₀ : List ℕ} {d₀ : Desk} → Untouched file₀ d₀ file d
+with-device {t} {s} {out} {at} {end} {left} {file} {d} e y none =
+    clash false (ap hasOne (ap (λ (b : Bool). cond b (With (stateOf file (d .rest))) NoDevice) (sym none) ∙ y .goes-on ∙ e)) refl
+  where
+    hasOne : Session → Bool
+    hasOne NoDevice = false
+    hasOne (With s) = true
 
 module _ (file : List ℕ) (d : Desk) (kind arg : ℕ) where
   pub event-told : (o : Outcome) → d .has ≡ true → o ≡ stepped part24 (stateOf file (d .rest)) kind arg → told o ≡ traced (sessionOf file d) (Event kind arg)

@@ -1,6 +1,6 @@
 -- One line in, one line out.
 use mathlib.Core.Path.{_≡_}
-use mathlib.Core.Bool.{cond}
+use mathlib.Core.Bool.{false, cond}
 use mathlib.Core.List.{List}
 use Prim.Native.Nat.{ℕ}
 use Rattle.map.specs.Map.{part24}
@@ -46,3 +46,7 @@ traced (With s) (Event kind arg) = told (stepped part24 s kind arg)
 pub record Says (t : Traced) (out : List ℕ) (at end : ℕ) (left file : List ℕ) (d : Desk) : Type 0 where
   pub says : Wrote out at (t .line) end left
   pub goes-on : sessionOf file d ≡ t .after
+
+-- where there is no device after a line, the register file and the desk are as they were
+abbrev pub Untouched : (file₀ : List ℕ) → (d₀ : Desk) → (file : List ℕ) → (d : Desk) → Type 0
+Untouched file₀ d₀ file d = d .has ≡ false → (file ≡ file₀) × (d ≡ d₀)

@@ -1,4 +1,5 @@
 // The trace program's work: one line in, one line out, on a register file that the caller lends.
+ghost use mathlib.Core.Path.{_≡_};
 ghost use mathlib.Core.List.{List};
 ghost use Prim.Native.Nat.{ℕ, _+_, _≤_};
 ghost use lib.ListN.{length};
@@ -8,7 +9,7 @@ ghost use Rattle.bus.specs.declared.Answer.the-variants.{Nothing};
 ghost use Rattle.map.specs.Map.{part24};
 ghost use Rattle.refusals.specs.PowerOn.{powerOn};
 ghost use Rattle.lines.specs.Lines.{lineOf};
-ghost use Rattle.tracing.specs.Tracing.{sessionOf, traced, told, unreadable, Says};
+ghost use Rattle.tracing.specs.Tracing.{sessionOf, traced, told, unreadable, Says, Untouched};
 use bus::Answer;
 use bus::Rest;
 use device::Device;
@@ -29,7 +30,7 @@ pub struct Told {
 // Refusal 7.
 fn refuse(desk: Desk, out: &mut [u8], at: usize) -> Told
     requires { ⌜ at + 26 ≤ length (now out) ⌝ }
-    ensures { λ r. ⌜ ((file : List ℕ) → Says (unreadable (sessionOf file desk)) (now (out .entry)) at (r .end) (now (out .exit)) file (r .desk)) ⌝ }
+    ensures { λ r. ⌜ ((file : List ℕ) → Says (unreadable (sessionOf file desk)) (now (out .entry)) at (r .end) (now (out .exit)) file (r .desk)) × (r .desk ≡ desk) ⌝ }
 {
     let end = answers::put_line(out, at, Answer::Refused(7), false, 0, 0);
     Told { desk, end }
@@ -70,7 +71,8 @@ fn make(file: &mut [u8; 128], choice: u8, levels: u64, out: &mut [u8], at: usize
 // An event, on the device if there is one.
 fn event(file: &mut [u8; 128], desk: Desk, kind: u32, arg: u64, out: &mut [u8], at: usize) -> Told
     requires { ⌜ at + 26 ≤ length (now out) ⌝ }
-    ensures { λ r. ⌜ Says (traced (sessionOf (now (file .entry)) desk) (Line.Event kind arg)) (now (out .entry)) at (r .end) (now (out .exit)) (now (file .exit)) (r .desk) ⌝ }
+    ensures { λ r. ⌜ Says (traced (sessionOf (now (file .entry)) desk) (Line.Event kind arg)) (now (out .entry)) at (r .end) (now (out .exit)) (now (file .exit)) (r .desk)
+        × Untouched (now (file .entry)) desk (now (file .exit)) (r .desk) ⌝ }
 {
     if desk.has {
         let rest = desk.rest;
@@ -85,7 +87,8 @@ fn event(file: &mut [u8; 128], desk: Desk, kind: u32, arg: u64, out: &mut [u8], 
 // One line, without its newline: its answer is written from at on.
 pub fn answer_line(file: &mut [u8; 128], desk: Desk, line: &[u8], out: &mut [u8], at: usize) -> Told
     requires { ⌜ at + 26 ≤ length (now out) ⌝ }
-    ensures { λ r. ⌜ Says (traced (sessionOf (now (file .entry)) desk) (lineOf (now (line .entry)))) (now (out .entry)) at (r .end) (now (out .exit)) (now (file .exit)) (r .desk) ⌝ }
+    ensures { λ r. ⌜ Says (traced (sessionOf (now (file .entry)) desk) (lineOf (now (line .entry)))) (now (out .entry)) at (r .end) (now (out .exit)) (now (file .exit)) (r .desk)
+        × Untouched (now (file .entry)) desk (now (file .exit)) (r .desk) ⌝ }
 {
     let said = reading::read(line);
     match said {

@@ -15,7 +15,7 @@ returns c =
     let p = c .before .before in
     let t = p .before .before .before .before in
     let x = t .before .before .before .before .args in
-    (says-as (line-whole (x .file .now) (x .held .now) (x .r) (t .if1 .taken) (x .part .now)) (p .answer-line .ensures), t .before .before .before .before .pre .1)
+    (says-as (line-whole (x .file .now) (x .held .now) (x .r) (t .if1 .taken) (x .part .now)) (p .answer-line .ensures .0), t .before .before .before .before .pre .1, p .answer-line .ensures .1)
 
 joined-line-requires : tie.Need-joined-line-requires
 joined-line-requires c κs = search needs

@@ -3,14 +3,15 @@ use native.Mathlib.Omega.{arith}
 use mathlib.Core.Path.{_≡_, refl}
 use Prim.Native.Nat.{_≤_}
 use lib.ListN.{length}
+use Rattle.tracing.specs.Tracing.{Untouched}
 use Rattle.logs.specs.Pieces.{readingOf}
-use Rattle.logs.proofs.Feeding.{Onward, onward-start, onward-line, onward-done, taken-some, taken-less}
+use Rattle.logs.proofs.Feeding.{untouched-then, Onward, onward-start, onward-line, onward-done, taken-some, taken-less}
 use Rattle.logs.proofs.feed.Statement.{statement}
 use Rattle.logs.proofs.feed.Tie as tie
 
 abbrev Inv-loop : tie.InvT-loop
 Inv-loop file₀ held₀ piece out₀ at rest₀ r₀ end₀ file held out rest r end =
-    Onward (readingOf file₀ held₀ r₀) piece out₀ at out rest (readingOf file held r) end × (r .len ≤ 33) × (length held ≡ 33)
+    Onward (readingOf file₀ held₀ r₀) piece out₀ at out rest (readingOf file held r) end × (r .len ≤ 33) × (length held ≡ 33) × Untouched file₀ (r₀ .desk) file (r .desk)
 
 abbrev μ-loop : tie.MeasureT-loop
 μ-loop file₀ held₀ piece out₀ at rest₀ r₀ end₀ file held out rest r end = length rest
@@ -18,7 +19,7 @@ abbrev μ-loop : tie.MeasureT-loop
 loop-holds : tie.Need-loop-holds Inv-loop μ-loop
 loop-holds c =
     let s = c .before .before in
-    (onward-start (s .args .file .now) (s .args .held .now) (s .args .reader) (s .pre .0) (s .pre .2), s .pre .0, s .pre .1)
+    (onward-start (s .args .file .now) (s .args .held .now) (s .args .reader) (s .pre .0) (s .pre .2), s .pre .0, s .pre .1, λ none. (refl, refl))
 
 first-line-requires : tie.Need-first-line-requires Inv-loop μ-loop
 first-line-requires c κs =
@@ -46,8 +47,12 @@ loop-less c =
 loop-again : tie.Need-loop-again Inv-loop μ-loop
 loop-again c =
     let f = c .before .before .before .before in
-    let i = f .before .before .before .before in
-    (onward-line (i .before .loop .inv .0) (i .loop-test .taken) (f .first-line .ensures .0) (f .first-line .ensures .1), f .first-line .ensures .0 .small, f .first-line .ensures .0 .whole)
+    let i = f .before .before .before .before in (
+      onward-line (i .before .loop .inv .0) (i .loop-test .taken) (f .first-line .ensures .0) (f .first-line .ensures .1),
+      f .first-line .ensures .0 .small,
+      f .first-line .ensures .0 .whole,
+      untouched-then (i .before .loop .inv .3) (f .first-line .ensures .2),
+    )
 
 same-length : tie.Need-same-length Inv-loop μ-loop
 same-length c = search needs
@@ -55,7 +60,7 @@ same-length c = search needs
 returns : tie.Need-returns Inv-loop μ-loop
 returns c =
     let here = c .before .loop .inv in
-    (onward-done (here .0) (c .loop-test .left) refl (here .1) (here .2), omega (arith, here .0 .room))
+    (onward-done (here .0) (c .loop-test .left) refl (here .1) (here .2), omega (arith, here .0 .room), here .3)
 
 pub feed-spec : {M : Type 1} → statement M
 feed-spec = tie.close (tie.spec Inv-loop μ-loop loop-holds first-line-requires sub-rest part-rest-start part-rest-end loop-less loop-again same-length returns)

@@ -1,5 +1,6 @@
 use borrow.Author.Needs.{needs}
-use Rattle.logs.proofs.Feeding.{last-none, last-line, last-fits}
+use mathlib.Core.Path.{refl}
+use Rattle.logs.proofs.Feeding.{last-none, last-line}
 use Rattle.logs.proofs.finish.Statement.{statement}
 use Rattle.logs.proofs.finish.Tie as tie
 
@@ -15,8 +16,7 @@ part-line-end c = search needs
 returns : tie.Need-returns
 returns c =
     let s = c .before .before .before .before .before in
-    let w = last-none (s .args .file .now) (s .args .held .now) (s .args .r) (c .if1 .taken) _ _ in
-    (w, last-fits (s .args .file .now) (s .args .held .now) (s .args .r) w (s .pre .1))
+    (last-none (s .args .file .now) (s .args .held .now) (s .args .r) (c .if1 .taken) _ _ (s .pre .1), λ none. (refl, refl))
 
 answer-line-requires : tie.Need-answer-line-requires
 answer-line-requires c κs = search needs
@@ -29,8 +29,7 @@ returns-2 c =
     let p = c .before .before in
     let e = p .before .before .before in
     let s = e .before .before .before .before .before in
-    let w = last-line (s .args .file .now) (s .args .held .now) (s .args .r) (e .if1 .left) (p .answer-line .ensures) in
-    (w, last-fits (s .args .file .now) (s .args .held .now) (s .args .r) w (s .pre .1))
+    (last-line (s .args .file .now) (s .args .held .now) (s .args .r) (e .if1 .left) (s .pre .1) (p .answer-line .ensures .0), p .answer-line .ensures .1)
 
 pub finish-spec : {M : Type 1} → statement M
 finish-spec = tie.close (tie.spec sub-line part-line-start part-line-end returns answer-line-requires same-length returns-2)

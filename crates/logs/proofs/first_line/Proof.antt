@@ -1,4 +1,5 @@
 use borrow.Author.Needs.{needs}
+use mathlib.Core.Path.{refl}
 use Rattle.logs.proofs.Feeding.{none-gives, line-gives}
 use Rattle.logs.proofs.first_line.Statement.{statement}
 use Rattle.logs.proofs.first_line.Tie as tie
@@ -14,7 +15,8 @@ returns c =
     let t = c .before .before in
     let n = t .before in
     let x = n .before .before .before .args in
-    none-gives _ _ _ (n .newline-at .ensures .0) (t .if1 .taken) (n .newline-at .ensures .1) _ _ (c .grow .ensures .0 (x .file .now)) (c .grow .ensures .2) (c .grow .ensures .1)
+    let g = none-gives _ _ _ (n .newline-at .ensures .0) (t .if1 .taken) (n .newline-at .ensures .1) _ _ (c .grow .ensures .0 (x .file .now)) (c .grow .ensures .2) (c .grow .ensures .1) in
+    (g .0, g .1, λ none. (refl, c .grow .ensures .3))
 
 sub-end-line : tie.Need-sub-end-line
 sub-end-line c = search needs
@@ -38,7 +40,8 @@ returns-2 : tie.Need-returns-2
 returns-2 c =
     let p = c .before .before .before in
     let e = p .before .before .before .before .before in
-    line-gives _ _ _ (e .before .newline-at .ensures .0) (e .if1 .left) (p .end-line .ensures .0) (p .end-line .ensures .1)
+    let g = line-gives _ _ _ (e .before .newline-at .ensures .0) (e .if1 .left) (p .end-line .ensures .0) (p .end-line .ensures .1) in
+    (g .0, g .1, p .end-line .ensures .2)
 
 pub first-line-spec : {M : Type 1} → statement M
 first-line-spec = tie.close (tie.spec newline-at-requires grow-requires returns sub-end-line part-end-line-start part-end-line-end end-line-requires add-t12 same-length returns-2)

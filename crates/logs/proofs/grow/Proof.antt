@@ -1,5 +1,5 @@
 use borrow.Author.Needs.{needs}
-use mathlib.Core.Path.{_≡_, ap, _∙_}
+use mathlib.Core.Path.{_≡_, refl, ap, _∙_}
 use mathlib.Core.List.{List}
 use Prim.Native.Nat.{ℕ}
 use lib.ListN.{length}
@@ -19,6 +19,7 @@ returns c =
       λ file. ap (λ (x : List ℕ). record { session = sessionOf file (s .args .r .desk); begun = x }) (kept .0),
       c .keep .ensures .long ∙ all,
       kept .1,
+      refl,
     )
 
 pub grow-spec : {M : Type 1} → statement M

@@ -1,4 +1,5 @@
 use borrow.Author.Needs.{needs}
+use mathlib.Core.Path.{_∙_}
 use Rattle.tracing.proofs.Laws.{says-as}
 use Rattle.logs.proofs.Feeding.{line-joined}
 use native.Mathlib.Omega.{arith}
@@ -30,7 +31,7 @@ returns c =
     let p = c .before .before in
     let g = p .before .before .before .before .before .before .before in
     let x = g .before .before .before .before .args in
-    (says-as (line-joined (x .file .now) (x .held .now) (x .r) (g .grow .result) _ (x .part .now) (g .grow .ensures .0 (x .file .now))) (p .answer-line .ensures), g .grow .ensures .1)
+    (says-as (line-joined (x .file .now) (x .held .now) (x .r) (g .grow .result) _ (x .part .now) (g .grow .ensures .0 (x .file .now))) (p .answer-line .ensures .0), g .grow .ensures .1, λ none. (p .answer-line .ensures .1 none .0, p .answer-line .ensures .1 none .1 ∙ g .grow .ensures .3))
 
 pub joined-line-spec : {M : Type 1} → statement M
 joined-line-spec = tie.close (tie.spec grow-requires sub-answer-line part-answer-line-start part-answer-line-end answer-line-requires same-length returns)

@@ -1,5 +1,6 @@
 use borrow.Author.Needs.{needs}
-use Rattle.tracing.proofs.Laws.{says-as, event-told, event-refused}
+use mathlib.Core.Path.{refl}
+use Rattle.tracing.proofs.Laws.{says-as, with-device, event-told, event-refused}
 use Rattle.tracing.proofs.event.Statement.{statement}
 use Rattle.tracing.proofs.event.Tie as tie
 
@@ -18,7 +19,7 @@ returns c =
     let s = p .before .before .before .before in
     let has = s .before .before .before in
     let x = has .before .before .args in
-    says-as (event-told (x .file .now) (x .desk) (x .kind) (x .arg) _ (has .if1 .taken) (s .step .ensures)) (p .tell .ensures)
+    (says-as (event-told (x .file .now) (x .desk) (x .kind) (x .arg) _ (has .if1 .taken) (s .step .ensures)) (p .tell .ensures), with-device refl (p .tell .ensures))
 
 refuse-requires : tie.Need-refuse-requires
 refuse-requires c κs = search needs
@@ -31,7 +32,7 @@ returns-2 c =
     let p = c .before .before in
     let none = p .before .before in
     let x = none .before .before .args in
-    says-as (event-refused (x .file .now) (x .desk) (x .kind) (x .arg) (none .if1 .left)) (p .refuse .ensures (x .file .now))
+    (says-as (event-refused (x .file .now) (x .desk) (x .kind) (x .arg) (none .if1 .left)) (p .refuse .ensures .0 (x .file .now)), λ h. (refl, p .refuse .ensures .1))
 
 pub event-spec : {M : Type 1} → statement M
 event-spec = tie.close (tie.spec step-requires tell-requires same-length returns refuse-requires same-length-2 returns-2)

@@ -12,7 +12,7 @@ same-length c = search needs
 
 returns : tie.Need-returns
 unfolding answerLine
-returns c = λ file. record { says = c .before .before .put-line .ensures; goes-on = refl }
+returns c = (λ file. record { says = c .before .before .put-line .ensures; goes-on = refl }, refl)
 
 pub refuse-spec : {M : Type 1} → statement M
 refuse-spec = tie.close (tie.spec put-line-requires same-length returns)

@@ -1,0 +1,1 @@
+// Theorems about logs as a whole: see specs/ for what they say and proofs/ for their proofs.
