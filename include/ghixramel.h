@@ -1,20 +1,45 @@
 /* ghixramel: the PCAL6524 in software, and the planner of quiet register writes. Link with libhost.a.
  *
  * Every function gives 0, or the number of its refusal; refused, it changes nothing that it was lent. No call needs
- * a check first. Nothing is allocated and nothing is kept between calls: the state lies in the caller's memory, and
- * calls on different devices may run at the same time. What is lent to one call must not overlap, nor be NULL. */
+ * a check first. Nothing is allocated and nothing is kept between calls: the state lies in the caller's memory.
+ *
+ * Memory that is lent is initialised, that for results too: a reference in the proved code is to initialised memory.
+ * What is lent to one call must not overlap, nor be NULL.
+ *
+ * Calls on different devices may run at the same time: the library has no data of its own (tests/host.sh links it with
+ * nothing else and finds no data section), and a call touches only what it is lent. That is tested, not proved. */
 #ifndef GHIXRAMEL_H
 #define GHIXRAMEL_H
 
 #include <stddef.h>
 #include <stdint.h>
 
-/* The state of a device, as plain numbers: it may be stored, sent and compared. */
+#ifdef __cplusplus
+extern "C" {
+#endif
+
+/* The state of a device, as plain numbers without padding: it may be stored, sent and compared. */
 struct ghixramel {
     uint64_t pins[4];       /* pin sets, pin 0 in the lowest bit: level, reference, held, edge */
     uint8_t registers[128]; /* one byte for each command number */
     uint8_t bus[3];         /* pointer, bus state, address choice */
+    uint8_t spare[5];       /* where padding would be: zeroed at power-on, ignored and kept by every other call */
 };
+
+/* C99 has no static assertion: an array of -1 bytes stops its compiler, so that no processor's layout goes unseen. */
+#if defined(__cplusplus)
+#define GHIXRAMEL_ASSERT(name, fact) static_assert(fact, #fact)
+#elif __STDC_VERSION__ >= 201112L
+#define GHIXRAMEL_ASSERT(name, fact) _Static_assert(fact, #fact)
+#else
+#define GHIXRAMEL_ASSERT(name, fact) typedef char ghixramel_assert_##name[(fact) ? 1 : -1]
+#endif
+GHIXRAMEL_ASSERT(pins, offsetof(struct ghixramel, pins) == 0);
+GHIXRAMEL_ASSERT(registers, offsetof(struct ghixramel, registers) == 32);
+GHIXRAMEL_ASSERT(bus, offsetof(struct ghixramel, bus) == 160);
+GHIXRAMEL_ASSERT(spare, offsetof(struct ghixramel, spare) == 163);
+GHIXRAMEL_ASSERT(size, sizeof(struct ghixramel) == 168);
+#undef GHIXRAMEL_ASSERT
 
 /* Refusals. */
 enum {
@@ -70,7 +95,11 @@ uint32_t ghixramel_arrays_show(const uint64_t pins[4], const uint8_t registers[1
 /* A device at power-on, at address choice 0 to 3, with these pin levels. Refusal 2. */
 static inline uint32_t ghixramel_power_on(struct ghixramel *device, uint32_t choice, uint64_t levels)
 {
-    return ghixramel_arrays_power_on(device->pins, device->registers, device->bus, choice, levels);
+    uint32_t refusal = ghixramel_arrays_power_on(device->pins, device->registers, device->bus, choice, levels);
+    if (refusal == GHIXRAMEL_DONE)
+        for (uint32_t i = 0; i < sizeof device->spare; i++)
+            device->spare[i] = 0;
+    return refusal;
 }
 
 /* One event. answer[0] is the answer's kind, answer[1] the byte read, else 0. Refusals 3, 1, 2. */
@@ -98,8 +127,12 @@ static inline uint32_t ghixramel_show(const struct ghixramel *device, uint32_t n
 }
 
 /* The writes that lead from one setting to another: writes[0] pairs register, value from the start of the buffer,
- * at most GHIXRAMEL_MOST_WRITES; bytes past them stay. Refusals 5, 6, 4. */
-uint32_t ghixramel_plan(const uint8_t *start, size_t start_bytes, const uint8_t *goal, size_t goal_bytes,
-                        uint8_t *buffer, size_t buffer_bytes, uint64_t writes[1]);
+ * at most GHIXRAMEL_MOST_WRITES; bytes past them stay. Refusals 5, 6, 4. Lengths have 64 bits on every processor. */
+uint32_t ghixramel_plan(const uint8_t *start, uint64_t start_bytes, const uint8_t *goal, uint64_t goal_bytes,
+                        uint8_t *buffer, uint64_t buffer_bytes, uint64_t writes[1]);
+
+#ifdef __cplusplus
+}
+#endif
 
 #endif

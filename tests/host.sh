@@ -1,6 +1,6 @@
 #!/usr/bin/env bash
-# The library as a C program calls it: its own checks (tests/c/host.c), then the independent model on seeded images, logs and plans
-# (SEED, IMAGES, LOGS and PLANS on request: IMAGES=100000 SEED=7 tests/host.sh).
+# The library as a C program calls it: the header in each language, its own checks (tests/c/host.c), then the independent model on seeded
+# images, logs and plans (SEED, IMAGES, LOGS and PLANS on request: IMAGES=100000 SEED=7 tests/host.sh).
 set -u
 cd "$(dirname "${BASH_SOURCE[0]}")/.." || exit 2
 . tests/c/kit.sh
@@ -32,6 +32,13 @@ build() {
         link_c "$out/plan" $(objects plan_lines $watched) "$library"
 }
 
+# a layout other than the one that the header asserts, or a name that C++ has changed, stops here
+try_header() { # NAME OPTIONS..
+    local program=$out/header_$1
+    shift
+    compile_c "$program.o" tests/c/header.c -pedantic "$@" && link_c "$program" "$program.o" "$library" && "${launch[@]}" "$program"
+}
+
 judge() { # PROGRAM COUNT
     python3 tests/model/compare.py "$1" "${launch[@]}" "$out/$1" --seed "${SEED:-1}" --count "$2" || bad=1
 }
@@ -41,6 +48,12 @@ build || exit 1
 
 "$tools/bin/ld.lld" -static -e 0 -T tests/c/alone.ld --whole-archive "$library" -o "$out/alone" ||
     fail "the library needs a symbol of others, or keeps data"
+
+try_header c99 -std=c99 || fail "the header as C99"
+try_header c11 -std=c11 || fail "the header as C11"
+try_header c++11 -x c++ -std=c++11 || fail "the header as C++11"
+# where pointers and alignment have 32 bits; the library is for 64, so this one is not linked
+compile_c "$out/header_32.o" tests/c/header.c -m32 || fail "the header for 32 bits"
 
 "${launch[@]}" "$out/host" || bad=1
 judge probe "${IMAGES:-5000}"

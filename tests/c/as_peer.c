@@ -5,9 +5,11 @@
 
 #include <libc.h>
 
+/* The peer has no spare bytes: any will do, if not those of power-on. */
 static struct ghixramel device_of(const struct peer *peer)
 {
-    struct ghixramel device = {{peer->level, peer->reference, peer->held, peer->edge}, {0}, {peer->pointer, peer->bus, peer->choice}};
+    struct ghixramel device = {
+        {peer->level, peer->reference, peer->held, peer->edge}, {0}, {peer->pointer, peer->bus, peer->choice}, {1, 2, 3, 4, 5}};
     memcpy(device.registers, peer->registers, sizeof device.registers);
     return device;
 }

@@ -46,7 +46,7 @@ struct lent {
 struct numbers {
     uint32_t small;
     uint64_t large;
-    size_t start_bytes, goal_bytes, buffer_bytes;
+    uint64_t start_bytes, goal_bytes, buffer_bytes;
 };
 
 static struct lent lent, before, first, allowed;
@@ -130,6 +130,13 @@ static void allow_struct(void)
     allow(lent.device.bus, sizeof lent.device.bus);
 }
 
+/* Power-on alone writes the spare bytes, and nothing but 0. */
+static void allow_made_struct(void)
+{
+    allow_struct();
+    memset(allowed.device.spare, 0, sizeof allowed.device.spare);
+}
+
 /* A number of writes that is too large is a failed check. */
 static void allow_plan(void)
 {
@@ -187,7 +194,7 @@ static void watch(enum function function, void (*on_arrays)(void), void (*on_str
     uint32_t first_refusal = refusal;
     memcpy(&first, &lent, sizeof lent);
     memcpy(&lent, &before, sizeof lent);
-    watch_one(function, on_struct, allow_struct);
+    watch_one(function, on_struct, function == POWER_ON ? allow_made_struct : allow_struct);
     want("refusal of a second call", first_refusal, refusal);
     same_as_first("pin sets differ on a second call", first.pins, lent.device.pins, sizeof first.pins);
     same_as_first("registers differ on a second call", first.registers, lent.device.registers, sizeof first.registers);
@@ -246,8 +253,8 @@ uint32_t guarded_show(const struct ghixramel *device, uint32_t number, uint8_t s
     return refusal;
 }
 
-uint32_t guarded_plan(const uint8_t *start, size_t start_bytes, const uint8_t *goal, size_t goal_bytes, uint8_t *buffer,
-                      size_t buffer_bytes, uint64_t writes[1])
+uint32_t guarded_plan(const uint8_t *start, uint64_t start_bytes, const uint8_t *goal, uint64_t goal_bytes, uint8_t *buffer,
+                      uint64_t buffer_bytes, uint64_t writes[1])
 {
     memset(&lent, FILL, sizeof lent);
     memcpy(lent.start, start, start_bytes);

@@ -47,7 +47,6 @@ static uint8_t random_pointer(uint64_t *random)
 struct ghixramel random_image(uint64_t *random)
 {
     struct ghixramel image;
-    memset(&image, 0, sizeof image);
     for (int i = 0; i < 4; i++)
         image.pins[i] = random_below(random, ALL_PINS + 1);
     for (uint32_t number = 0; number < REGISTERS; number++)
@@ -55,5 +54,7 @@ struct ghixramel random_image(uint64_t *random)
     image.bus[0] = random_pointer(random);
     image.bus[1] = (uint8_t)random_below(random, 8);
     image.bus[2] = (uint8_t)random_below(random, 4);
+    for (size_t i = 0; i < sizeof image.spare; i++)
+        image.spare[i] = (uint8_t)random_below(random, 256);
     return image;
 }

@@ -20,7 +20,7 @@ const struct group *group_of(uint32_t number);
 /* The bits of an entry that can be other than 0. */
 uint8_t stored_bits(uint32_t number);
 
-/* Any state that a device can be in. */
+/* Any state that a device can be in, and any spare bytes. */
 struct ghixramel random_image(uint64_t *random);
 
 #endif

@@ -32,7 +32,7 @@ static struct setting port_0(uint8_t output, uint8_t configuration, uint8_t port
     return (struct setting){{output, 0xFF, 0xFF, configuration, 0xFF, 0xFF, port_kind, pin_kind, 0x00, 0x00}};
 }
 
-static uint32_t plan(const struct setting *start, const struct setting *goal, size_t room, struct plan *plan)
+static uint32_t plan(const struct setting *start, const struct setting *goal, uint64_t room, struct plan *plan)
 {
     return guarded_plan(start->bytes, SETTING, goal->bytes, SETTING, plan->pairs, room, plan->writes);
 }
@@ -124,7 +124,7 @@ static void try_rooms(const struct setting *start, const struct setting *goal, u
 }
 
 /* 5 comes before 6 and 4. */
-static void want_bad_setting(const uint8_t *start, size_t start_bytes, const uint8_t *goal, size_t goal_bytes)
+static void want_bad_setting(const uint8_t *start, uint64_t start_bytes, const uint8_t *goal, uint64_t goal_bytes)
 {
     struct plan none;
     want("refusal", GHIXRAMEL_BAD_SETTING, guarded_plan(start, start_bytes, goal, goal_bytes, none.pairs, ROOM, none.writes));
@@ -139,7 +139,7 @@ static void bad_settings(const struct setting *start, const struct setting *goal
     uint8_t longer_start[MOST_LENT_BYTES] = {0}, longer_goal[MOST_LENT_BYTES] = {0};
     memcpy(longer_start, start->bytes, SETTING);
     memcpy(longer_goal, goal->bytes, SETTING);
-    for (size_t bytes = 0; bytes <= MOST_LENT_BYTES; bytes++) {
+    for (uint64_t bytes = 0; bytes <= MOST_LENT_BYTES; bytes++) {
         if (bytes == SETTING)
             continue;
         about("setting of bytes", bytes);
