@@ -56,8 +56,8 @@ static void same_state(const struct ghixramel *ours, const struct peer *peer, si
 
 static void same_outputs(const struct ghixramel *ours, const struct peer *peer, size_t place)
 {
-    uint64_t our_drives[2], peer_drive[2];
-    uint8_t asserted[1];
+    uint64_t our_drives[2] = {0}, peer_drive[2] = {0};
+    uint8_t asserted[1] = {0};
     same(ghixramel_drives(ours, our_drives), 0, "refusals of drives", place);
     same(ghixramel_int(ours, asserted), 0, "refusals of INT", place);
     peer_drives(peer, peer_drive);
@@ -69,8 +69,8 @@ static void same_outputs(const struct ghixramel *ours, const struct peer *peer, 
 /* Untimed: answers, state and outputs after every event. */
 static void check_steps(void)
 {
-    struct ghixramel ours;
-    struct peer peer;
+    struct ghixramel ours = {0};
+    struct peer peer = {0};
     same(ghixramel_power_on(&ours, CHOICE, LEVELS), peer_power_on(&peer, CHOICE, LEVELS), "devices made", 0);
     for (size_t i = 0; i < EVENTS; i++) {
         uint8_t our_answer[2] = {0, 0}, peer_answer[2] = {0, 0};
@@ -112,8 +112,8 @@ static int64_t time_peer(struct peer *device, uint64_t *sum)
 
 static void bench_steps(void)
 {
-    struct ghixramel ours;
-    struct peer peer;
+    struct ghixramel ours = {0};
+    struct peer peer = {0};
     int64_t our_best = 0, peer_best = 0;
     for (size_t round = 0; round < ROUNDS; round++) {
         uint64_t our_sum = 0, peer_sum = 0;
@@ -172,7 +172,7 @@ static void write_setting(uint8_t setting[GHIXRAMEL_SETTING_BYTES], uint8_t numb
 static void check_plans(void)
 {
     for (size_t i = 0; i < PAIRS; i++) {
-        uint8_t buffer[GHIXRAMEL_PLAN_BYTES], reached[GHIXRAMEL_SETTING_BYTES];
+        uint8_t buffer[GHIXRAMEL_PLAN_BYTES] = {0}, reached[GHIXRAMEL_SETTING_BYTES];
         uint64_t writes[1] = {0};
         uint32_t refused = plan(&pairs[i], buffer, writes);
         if (refused == GHIXRAMEL_NO_QUIET_WAY)

@@ -82,7 +82,7 @@ static uint8_t *put_image(uint8_t *to, const struct peer *device)
 
 static uint8_t *put_step(uint8_t *to, struct probe *probe)
 {
-    uint8_t answer[2];
+    uint8_t answer[2] = {0};
     uint32_t refusal = peer_step(&probe->device, probe->kind, probe->argument, answer);
     if (refusal)
         return put_refusal(to, refusal);

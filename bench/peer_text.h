@@ -26,7 +26,7 @@ static inline uint8_t *put_answer(uint8_t *to, const uint8_t answer[2])
 /* The answer, the INT line's level, the pins driven low, the pins driven high; no newline. */
 static inline uint8_t *put_outputs(uint8_t *to, const struct peer *device, const uint8_t answer[2])
 {
-    uint64_t drives[2];
+    uint64_t drives[2] = {0};
     peer_drives(device, drives);
     to = put_byte(put_answer(to, answer), '\t');
     to = put_byte(to, peer_int(device) ? '0' : '1');

@@ -51,7 +51,7 @@ void peer_drives(const struct peer *peer, uint64_t drives[2])
 int peer_int(const struct peer *peer)
 {
     struct ghixramel device = device_of(peer);
-    uint8_t asserted[1];
+    uint8_t asserted[1] = {0};
     want("refusal of INT", GHIXRAMEL_DONE, guarded_int(&device, asserted));
     return asserted[0];
 }

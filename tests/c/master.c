@@ -15,7 +15,7 @@ struct ghixramel device_with(uint32_t choice, uint64_t levels)
 
 uint32_t answer_to(struct ghixramel *device, uint32_t kind, uint64_t argument)
 {
-    uint8_t answer[2];
+    uint8_t answer[2] = {0};
     want("refusal of an event", GHIXRAMEL_DONE, guarded_step(device, kind, argument, answer));
     return (uint32_t)answer[0] << 8 | answer[1];
 }
@@ -77,14 +77,14 @@ uint32_t read_register(struct ghixramel *device, uint32_t number)
 
 uint32_t int_of(const struct ghixramel *device)
 {
-    uint8_t asserted[1];
+    uint8_t asserted[1] = {0};
     want("refusal of INT", GHIXRAMEL_DONE, guarded_int(device, asserted));
     return asserted[0];
 }
 
 void want_drives(const struct ghixramel *device, uint64_t low, uint64_t high)
 {
-    uint64_t drives[2];
+    uint64_t drives[2] = {0};
     want("refusal of drives", GHIXRAMEL_DONE, guarded_drives(device, drives));
     want("pins driven low", low, drives[0]);
     want("pins driven high", high, drives[1]);

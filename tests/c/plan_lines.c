@@ -34,8 +34,8 @@ static int read_fields(const uint8_t *line, size_t length, struct field *start, 
 
 static uint8_t *put_plan(uint8_t *to, const struct field *start, const struct field *goal)
 {
-    uint8_t pairs[GHIXRAMEL_PLAN_BYTES];
-    uint64_t writes[1];
+    uint8_t pairs[GHIXRAMEL_PLAN_BYTES] = {0};
+    uint64_t writes[1] = {0};
     uint32_t refusal = guarded_plan(start->bytes, start->count, goal->bytes, goal->count, pairs, sizeof pairs, writes);
     if (refusal)
         return put_refusal(to, refusal);

@@ -39,7 +39,7 @@ static uint32_t plan(const struct setting *start, const struct setting *goal, ui
 
 static struct drives drives_of(const struct ghixramel *device)
 {
-    uint64_t drives[2];
+    uint64_t drives[2] = {0};
     want("refusal of drives", GHIXRAMEL_DONE, guarded_drives(device, drives));
     const uint8_t *configuration = device->registers + 0x0C;
     return (struct drives){drives[0], drives[1], configuration[0] | (uint64_t)configuration[1] << 8 | (uint64_t)configuration[2] << 16};
@@ -79,7 +79,7 @@ static void run_plan(const struct setting *start, const struct setting *goal, co
 
 static void want_plan(const char *topic, const struct setting *start, const struct setting *goal)
 {
-    struct plan given;
+    struct plan given = {0};
     about(topic, 0);
     want("refusal", GHIXRAMEL_DONE, plan(start, goal, ROOM, &given));
     run_plan(start, goal, &given);
@@ -87,7 +87,7 @@ static void want_plan(const char *topic, const struct setting *start, const stru
 
 static void plan_points(void)
 {
-    struct plan none;
+    struct plan none = {0};
     struct setting start = port_0(0xFF, 0xFE, 0, 0x00), goal = port_0(0xFF, 0xFE, 1, 0x01);
     about("pin 0 high at both ends while both kinds flip", 0);
     want("refusal", GHIXRAMEL_NO_QUIET_WAY, plan(&start, &goal, ROOM, &none));
@@ -104,7 +104,7 @@ static void no_writes(void)
     uint64_t random = SEED;
     for (int i = 0; i < SETTING; i++) {
         struct setting both;
-        struct plan given;
+        struct plan given = {0};
         for (int n = 0; n < SETTING; n++)
             both.bytes[n] = (uint8_t)random_below(&random, n == PORT_KIND_AT ? 8 : 256);
         about("start equal to goal", (uint64_t)i);
@@ -116,8 +116,8 @@ static void no_writes(void)
 /* Room for 32 bytes is asked of every plan, however short, and before a way is looked for. */
 static void try_rooms(const struct setting *start, const struct setting *goal, uint32_t with_room)
 {
-    struct plan given;
-    for (size_t room = 0; room <= MOST_LENT_BYTES; room++) {
+    struct plan given = {0};
+    for (uint64_t room = 0; room <= MOST_LENT_BYTES; room++) {
         about("plan buffer of bytes", room);
         want("refusal", room < ROOM ? GHIXRAMEL_BUFFER_SMALL : with_room, plan(start, goal, room, &given));
     }
@@ -126,7 +126,7 @@ static void try_rooms(const struct setting *start, const struct setting *goal, u
 /* 5 comes before 6 and 4. */
 static void want_bad_setting(const uint8_t *start, uint64_t start_bytes, const uint8_t *goal, uint64_t goal_bytes)
 {
-    struct plan none;
+    struct plan none = {0};
     want("refusal", GHIXRAMEL_BAD_SETTING, guarded_plan(start, start_bytes, goal, goal_bytes, none.pairs, ROOM, none.writes));
     want("refusal with a small buffer", GHIXRAMEL_BAD_SETTING,
          guarded_plan(start, start_bytes, goal, goal_bytes, none.pairs, ROOM - 1, none.writes));
@@ -173,7 +173,7 @@ static void random_plans(void)
     uint64_t random = SEED;
     for (int i = 0; i < RANDOM_PAIRS; i++) {
         struct setting start, goal;
-        struct plan given;
+        struct plan given = {0};
         for (int n = 0; n < SETTING; n++) {
             start.bytes[n] = (uint8_t)random_below(&random, n == PORT_KIND_AT ? 8 : 256);
             goal.bytes[n] = (uint8_t)random_below(&random, n == PORT_KIND_AT ? 8 : 256);

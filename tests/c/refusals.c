@@ -20,25 +20,25 @@ static const uint64_t far_too_large[] = {0x1000000, 0x100000000, 0x8000000000000
 static uint32_t step_refusal(const struct ghixramel *image, uint32_t kind, uint64_t argument)
 {
     struct ghixramel device = *image;
-    uint8_t answer[2];
+    uint8_t answer[2] = {0};
     return guarded_step(&device, kind, argument, answer);
 }
 
 static uint32_t show_refusal(const struct ghixramel *image, uint32_t number)
 {
-    uint8_t shown[1];
+    uint8_t shown[1] = {0};
     return guarded_show(image, number, shown);
 }
 
 static uint32_t drives_refusal(const struct ghixramel *image)
 {
-    uint64_t drives[2];
+    uint64_t drives[2] = {0};
     return guarded_drives(image, drives);
 }
 
 static uint32_t int_refusal(const struct ghixramel *image)
 {
-    uint8_t asserted[1];
+    uint8_t asserted[1] = {0};
     return guarded_int(image, asserted);
 }
 
@@ -149,7 +149,7 @@ static void try_ignored_arguments(const struct ghixramel *whole)
     for EACH (i, kinds) {
         about("ignored argument of event kind", kinds[i]);
         struct ghixramel with_none = *whole, with_large = *whole;
-        uint8_t answer[2];
+        uint8_t answer[2] = {0};
         want("refusal", GHIXRAMEL_DONE, guarded_step(&with_none, kinds[i], 0, answer));
         want("refusal of the largest", GHIXRAMEL_DONE, guarded_step(&with_large, kinds[i], UINT64_MAX, answer));
         want("states differ", 0, memcmp(&with_none, &with_large, sizeof with_none) != 0);
@@ -187,7 +187,7 @@ static uint32_t power_on_refusal(uint32_t choice, uint64_t levels, struct ghixra
 
 static void want_power_on(uint32_t choice, uint64_t levels)
 {
-    struct ghixramel device;
+    struct ghixramel device = {0};
     about("power-on with levels", levels);
     want("refusal", GHIXRAMEL_DONE, power_on_refusal(choice, levels, &device));
     want("level", levels, device.pins[0]);
@@ -208,7 +208,7 @@ static void want_power_on(uint32_t choice, uint64_t levels)
 void check_bounds(void)
 {
     static const uint32_t wrong_choices[] = {4, 0x100, 0x80000000, UINT32_MAX};
-    struct ghixramel device;
+    struct ghixramel device = {0};
     for (uint32_t choice = 0; choice < 4; choice++) {
         want_power_on(choice, 0);
         want_power_on(choice, ALL_PINS);

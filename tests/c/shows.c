@@ -9,7 +9,7 @@ enum { IMAGES = 40, SEED = 2 };
 
 static void show_beside_fetch(const struct ghixramel *image, uint32_t number)
 {
-    uint8_t shown[1];
+    uint8_t shown[1] = {0};
     struct ghixramel fetched_from = *image;
     about("show of register", number);
     want("refusal", GHIXRAMEL_DONE, guarded_show(image, number, shown));
@@ -18,7 +18,7 @@ static void show_beside_fetch(const struct ghixramel *image, uint32_t number)
 
 static void show_of_no_register(const struct ghixramel *image, uint32_t number)
 {
-    uint8_t shown[1];
+    uint8_t shown[1] = {0};
     about("show of no register", number);
     want("refusal", GHIXRAMEL_BAD_ARGUMENT, guarded_show(image, number, shown));
 }
