@@ -1,33 +1,15 @@
 /* One step of the peer on a state image a line: registers, four pin sets, pointer, bus state, address choice, kind and
  * argument, in lowercase hex parted by tabs. Answered as the trace program does, then the image after. */
+#include "image_text.h"
 #include "peer_text.h"
 
-enum { REGISTERS = 128, LINE_BYTES = 359, MOST_PROBE_BYTES = 400 };
+enum { LINE_BYTES = 359, MOST_PROBE_BYTES = 400 };
 
 struct probe {
     struct peer device;
     uint32_t kind;
     uint64_t argument;
 };
-
-/* A field with its tab, or the line's end, after it; NULL once something was wrong. */
-static const uint8_t *field(const uint8_t *at, size_t digits, uint64_t *value)
-{
-    if (!at || !read_hex(at, digits, value) || (at[digits] != '\t' && at[digits] != '\n'))
-        return NULL;
-    return at + digits + 1;
-}
-
-static const uint8_t *registers_field(const uint8_t *at, uint8_t registers[REGISTERS])
-{
-    uint64_t value;
-    for (int i = 0; i < REGISTERS; i++, at += 2) {
-        if (!read_hex(at, 2, &value))
-            return NULL;
-        registers[i] = (uint8_t)value;
-    }
-    return *at == '\t' ? at + 1 : NULL;
-}
 
 static const uint8_t *pins_fields(const uint8_t *at, struct peer *device)
 {

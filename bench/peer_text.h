@@ -7,11 +7,15 @@
 
 enum { UNREADABLE = 7, MOST_ANSWER_BYTES = 32 };
 
-static inline uint8_t *put_refusal(uint8_t *to, uint32_t number)
+static inline uint8_t *put_refused(uint8_t *to, uint32_t number)
 {
     to = PUT_WORDS(to, "refused\t");
-    to = put_byte(to, (uint8_t)('0' + number));
-    return put_byte(to, '\n');
+    return put_byte(to, (uint8_t)('0' + number));
+}
+
+static inline uint8_t *put_refusal(uint8_t *to, uint32_t number)
+{
+    return put_byte(put_refused(to, number), '\n');
 }
 
 static inline uint8_t *put_answer(uint8_t *to, const uint8_t answer[2])

@@ -1,6 +1,6 @@
 #!/usr/bin/env bash
 # The library as a C program calls it: the header in each language, its own checks (tests/c/host.c), then the independent model on seeded
-# images, logs and plans (SEED, IMAGES, LOGS and PLANS on request: IMAGES=100000 SEED=7 tests/host.sh).
+# images, logs, plans and views (SEED, IMAGES, LOGS, PLANS and VIEWS on request: IMAGES=100000 SEED=7 tests/host.sh).
 set -u
 cd "$(dirname "${BASH_SOURCE[0]}")/.." || exit 2
 . tests/c/kit.sh
@@ -19,7 +19,7 @@ objects() { # NAMES..
 build() {
     local name watched="checks guarded stack"
     mkdir -p "$out" || return 1
-    for name in host $watched images master points refusals shows plans as_peer plan_lines; do
+    for name in host $watched images master points refusals shows plans as_peer plan_lines view_lines; do
         compile_c "$out/$name.o" "tests/c/$name.c" -I bench || return 1
     done
     for name in mix peer_probe peer_trace; do
@@ -29,7 +29,8 @@ build() {
     link_c "$out/host" $(objects host $watched images master points refusals shows plans mix) "$library" &&
         link_c "$out/probe" $(objects peer_probe as_peer $watched) "$library" &&
         link_c "$out/trace" $(objects peer_trace as_peer $watched) "$library" &&
-        link_c "$out/plan" $(objects plan_lines $watched) "$library"
+        link_c "$out/plan" $(objects plan_lines $watched) "$library" &&
+        link_c "$out/views" $(objects view_lines $watched) "$library"
 }
 
 # a layout other than the one that the header asserts, or a name that C++ has changed, stops here
@@ -59,4 +60,5 @@ compile_c "$out/header_32.o" tests/c/header.c -m32 || fail "the header for 32 bi
 judge probe "${IMAGES:-5000}"
 judge trace "${LOGS:-300}"
 judge plan "${PLANS:-500}"
+judge views "${VIEWS:-3000}"
 exit $bad

@@ -1,4 +1,4 @@
-"""A program under test against the model: python3 compare.py trace|probe|plan COMMAND... [--seed N] [--count N]."""
+"""A program under test against the model: python3 compare.py trace|probe|plan|views COMMAND... [--seed N] [--count N]."""
 
 import random
 import subprocess
@@ -7,11 +7,12 @@ import tempfile
 import time
 
 import generate
+import probe
+import views
 from judge import judge
-from probe import run_lines
 from trace import run_log, split_lines
 
-COUNTS = {'trace': 1000, 'probe': 20000, 'plan': 3000}
+COUNTS = {'trace': 1000, 'probe': 20000, 'plan': 3000, 'views': 3000}
 ALONE = 20
 LONG_LOGS, LONG_LINES = 5, 4000
 
@@ -91,13 +92,21 @@ def compare_trace(command, rng, count):
     return False, len(alone) + len(logs)
 
 
-def compare_probe(command, rng, count):
+def compare_lines(what, lines, run_lines, command):
     """All lines in one run; the last one lacks its newline."""
-    lines = b''.join(generate.image_line(rng) for _ in range(count))[:-1]
-    wanted, got = run_lines(lines), run(command, lines)
+    given = b''.join(lines)[:-1]
+    wanted, got = run_lines(given), run(command, given)
     if wanted != got:
-        report('image lines', lines, wanted, got, 0)
-    return wanted == got, count
+        report(what, given, wanted, got, 0)
+    return wanted == got, len(lines)
+
+
+def compare_probe(command, rng, count):
+    return compare_lines('image lines', [generate.image_line(rng) for _ in range(count)], probe.run_lines, command)
+
+
+def compare_views(command, rng, count):
+    return compare_lines('view lines', [generate.view_line(rng) for _ in range(count)], views.run_lines, command)
 
 
 def compare_plan(command, rng, count):
@@ -134,7 +143,8 @@ def options(words):
 
 def main(words):
     command, seed, count = options(words[1:])
-    compare = {'trace': compare_trace, 'probe': compare_probe, 'plan': compare_plan}.get(words[0] if words else '')
+    compare = {'trace': compare_trace, 'probe': compare_probe, 'plan': compare_plan,
+               'views': compare_views}.get(words[0] if words else '')
     if not compare or not command:
         print(__doc__)
         return 2

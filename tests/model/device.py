@@ -508,6 +508,43 @@ class Device:
             return pin_set(self.status_bit(i) for i in self.pins_of(number))
         return self.registers[number]
 
+    # What a host is told when it asks, ('refused', n) where it is refused; nothing changes.
+
+    def drives_refusal(self):
+        """3 of a broken image; None if the drives are told."""
+        return 3 if self.broken else None
+
+    def int_refusal(self):
+        """3 of a broken image; None if INT is told."""
+        return 3 if self.broken else None
+
+    def byte_refusal(self, number):
+        """The image first, then the number; None if the byte is told."""
+        if self.broken:
+            return 3
+        if self.number_refused(number):
+            return 2
+        return None
+
+    def number_refused(self, number):
+        """A register number that is reserved or over 7Fh."""
+        return number > 0x7F or self.map[number] is None
+
+    def told_drives(self):
+        """The pins driven low, the pins driven high."""
+        number = self.drives_refusal()
+        return self.outputs()[1:] if number is None else ('refused', number)
+
+    def told_int(self):
+        """1 quiet, 0 asserted."""
+        number = self.int_refusal()
+        return self.outputs()[0] if number is None else ('refused', number)
+
+    def told_byte(self, number):
+        """The byte that a fetch of the register would show."""
+        refusal = self.byte_refusal(number)
+        return self.byte_at(number) if refusal is None else ('refused', refusal)
+
     def outputs(self):
         """INT (1 quiet, 0 asserted), the pins driven low, the pins driven high."""
         if self.changed:

@@ -1,4 +1,4 @@
-"""Seeded generators: trace logs, probe lines and the planner's starts and goals."""
+"""Seeded generators: trace logs, probe lines, view lines and the planner's starts and goals."""
 
 from device import (BYTE, CALL, CHOSEN, FETCH, FILLING, GROUPS, LEVELS, OPENED, PINS, SENDING, SET_LIMIT, TEN, Device,
                     Image, power_on)
@@ -391,6 +391,11 @@ def spoiled_line(rng, line):
     return b'\t'.join(fields)
 
 
+def sound_image(rng, focus, pointer, bus):
+    return Image(tuple(random_registers(rng)), *(random_marks(rng, focus) for _ in range(4)),
+                 pointer, bus, rng.randrange(4))
+
+
 def image_line(rng):
     """A probe line with its newline: mostly a well-formed image and a fitting event."""
     focus = [rng.randrange(PINS) for _ in range(3)]
@@ -402,8 +407,7 @@ def image_line(rng):
     if bus == SENDING and rng.random() < 0.6:
         group = NAMED[rng.choice(('input port', 'input status', 'interrupt status'))]
         number = rng.randint(group.first, group.last)
-    image = Image(tuple(random_registers(rng)), *(random_marks(rng, focus) for _ in range(4)),
-                  number, bus, rng.randrange(4))
+    image = sound_image(rng, focus, number, bus)
     kind, arg = meant_event(rng, bus, image.choice)
     if rng.random() < 0.16:
         image = broken_image(rng, image)
@@ -414,6 +418,25 @@ def image_line(rng):
         limit = {BYTE: 256, FETCH: 2, LEVELS: SET_LIMIT}[kind]
         arg = rng.choice((limit - 1, over(rng, limit, 1 << 64)))
     line = ('%s\t%0*x\t%0*x' % (image_fields(image), WIDTHS[8], kind, WIDTHS[9], arg)).encode()
+    if rng.random() < 0.04:
+        line = spoiled_line(rng, line)
+    return line + b'\n'
+
+
+# View lines.
+
+def register_number(rng):
+    """Mostly a known number; else reserved, 80h to FFh, or larger and known in its low byte."""
+    larger = over(rng, 0x100, 1 << 32) & ~0xFF | rng.choice(KNOWN)
+    return rng.choices((rng.choice(KNOWN), rng.choice(RESERVED), rng.randrange(0x80, 0x100), larger), (5, 1, 1, 1))[0]
+
+
+def view_line(rng):
+    """An image and a register number with their newline: two images in three are well formed."""
+    image = sound_image(rng, [rng.randrange(PINS) for _ in range(3)], rng.choice(KNOWN), rng.randrange(8))
+    if rng.random() < 0.33:
+        image = broken_image(rng, image)
+    line = ('%s\t%08x' % (image_fields(image), register_number(rng))).encode()
     if rng.random() < 0.04:
         line = spoiled_line(rng, line)
     return line + b'\n'

@@ -1,6 +1,7 @@
 """One-rule mutants of the model, and whether the standard corpus tells each from it: python3 mutants.py [seed] [--all].
 
-A mutant that only images can show is tried on images alone, unless --all has the logs run through it too.
+A mutant that only images can show is tried on images alone, one that only views can show on views alone, unless --all
+has the logs, for views the images too, run through it.
 """
 
 import random
@@ -8,14 +9,16 @@ import sys
 import time
 
 import generate
+import probe
+import views
 from device import (ARMED, BYTE, CALL, CHOSEN, DEAF, FETCH, FILLING, GROUPS, IDLE, LEVELS, OPENED, PINS, PORT_KIND,
                     SENDING, SET_LIMIT, Device, number_map)
-from probe import answer_to, read_line
 from trace import answers, read_log
 
 TRACES = 250
 FURTHER_TRACES = 750
 IMAGE_LINES = 6000
+VIEW_LINES = 3000
 
 # Name of a mutant that no output can tell from the model, and why.
 SURVIVORS = {}
@@ -35,6 +38,13 @@ ONLY_BY_IMAGES = frozenset('''
     ReservedPointerPasses LargePointerPasses BusStateEightPasses BusStateSevenFails ChoiceFourPasses
     PortKindEightPasses PortKindSevenFails ReservedEntryPasses ReadOnlyEntryPasses ClearEntryPasses LastEntryUnchecked
     HeldWithoutLatchFails LargeLevelPasses LargeReferencePasses LargeHeldPasses LargeEdgePasses
+'''.split())
+
+# The mutants of what a host is told when it asks, and of when it is refused: no event asks.
+ONLY_BY_VIEWS = frozenset('''
+    IntOfBrokenImageIsQuiet IntOfBrokenImageIsTold DrivesOfBrokenImageAreTold ByteOfBrokenImageIsTold
+    ReservedNumberShowsNull LargeNumberShowsNull NumberBeforeImage NumberLowByteOnly TopBitOfNumberDropped
+    ByteOnlyWhileSending ByteAskedSettles
 '''.split())
 
 MUTANTS = []
@@ -1408,6 +1418,81 @@ for set_name in ('level', 'reference', 'held', 'edge'):
     pin_set_mutant(set_name)
 
 
+# Views.
+
+@mutant
+class IntOfBrokenImageIsQuiet(Device):
+    def told_int(self):
+        return 1 if self.broken else super().told_int()
+
+
+@mutant
+class IntOfBrokenImageIsTold(Device):
+    def int_refusal(self):
+        return None
+
+
+@mutant
+class DrivesOfBrokenImageAreTold(Device):
+    def drives_refusal(self):
+        return None
+
+
+@mutant
+class ByteOfBrokenImageIsTold(Device):
+    def byte_refusal(self, number):
+        return 2 if self.number_refused(number) else None
+
+
+@mutant
+class ReservedNumberShowsNull(Device):
+    def told_byte(self, number):
+        told = super().told_byte(number)
+        return 0x00 if told == ('refused', 2) and number <= 0x7F else told
+
+
+@mutant
+class LargeNumberShowsNull(Device):
+    def told_byte(self, number):
+        told = super().told_byte(number)
+        return 0x00 if told == ('refused', 2) and number > 0x7F else told
+
+
+@mutant
+class NumberBeforeImage(Device):
+    def byte_refusal(self, number):
+        return 2 if self.number_refused(number) else super().byte_refusal(number)
+
+
+@mutant
+class NumberLowByteOnly(Device):
+    def told_byte(self, number):
+        return super().told_byte(number & 0xFF)
+
+
+@mutant
+class TopBitOfNumberDropped(Device):
+    def told_byte(self, number):
+        return super().told_byte(number & 0x7F if number <= 0xFF else number)
+
+
+@mutant
+class ByteOnlyWhileSending(Device):
+    def told_byte(self, number):
+        told = super().told_byte(number)
+        return told if isinstance(told, tuple) or self.bus == SENDING else self.stray_fetch()
+
+
+@mutant
+class ByteAskedSettles(Device):
+    def told_byte(self, number):
+        told = super().told_byte(number)
+        if not isinstance(told, tuple):
+            for i in self.settled_by_fetch(number, False):
+                self.settle(i)
+        return told
+
+
 class Cases:
     """Inputs read once, each with the model's answers; both are made only as far as some mutant asks for them."""
 
@@ -1445,17 +1530,28 @@ def trace_cases(rng, count):
 def image_cases(rng, count):
     """Image lines, each with its one answer."""
     lines = (generate.image_line(rng)[:-1] for _ in range(count))
-    return Cases(map(read_line, lines), lambda read, cls: [answer_to(read, cls)])
+    return Cases(map(probe.read_line, lines), lambda read, cls: [probe.answer_to(read, cls)])
+
+
+def view_cases(rng, count):
+    """View lines, each with its one answer."""
+    lines = (generate.view_line(rng)[:-1] for _ in range(count))
+    return Cases(map(views.read_line, lines), lambda read, cls: [views.answer_to(read, cls)])
 
 
 def main(seed, everything):
     began = time.monotonic()
     names = [cls.__name__ for cls in MUTANTS]
-    assert len(set(names)) == len(names) and ONLY_BY_IMAGES | set(SURVIVORS) <= set(names)
+    assert len(set(names)) == len(names) and ONLY_BY_IMAGES | ONLY_BY_VIEWS | set(SURVIVORS) <= set(names)
     rng = random.Random(seed)
-    logs, images = trace_cases(rng, TRACES), image_cases(rng, IMAGE_LINES)
-    by_trace, by_image, alive, wrong = [], [], [], []
+    logs, images, asked = trace_cases(rng, TRACES), image_cases(rng, IMAGE_LINES), view_cases(rng, VIEW_LINES)
+    by_trace, by_image, by_view, alive, wrong = [], [], [], [], []
     for cls, name in zip(MUTANTS, names):
+        if name in ONLY_BY_VIEWS:
+            (by_view if asked.tell(cls) else alive).append(name)
+            if everything and (logs.tell(cls) or images.tell(cls)):
+                wrong.append('%s: not only views tell it' % name)
+            continue
         listed = name in ONLY_BY_IMAGES
         traced = (everything or not listed) and logs.tell(cls)
         imaged = (listed or not traced) and images.tell(cls)
@@ -1465,9 +1561,10 @@ def main(seed, everything):
         # One log in fifty tells the rarest of the others, so that one seed in a hundred asks for more logs than these.
         if imaged and not listed and not trace_cases(random.Random('further %d' % seed), FURTHER_TRACES).tell(cls):
             wrong.append('%s: no log tells it' % name)
-    print('seed %d: %d mutants, %d caught by traces, %d only by images, %d survive, %.1f s' % (
-        seed, len(MUTANTS), len(by_trace), len(by_image), len(alive), time.monotonic() - began))
+    print('seed %d: %d mutants, %d caught by traces, %d only by images, %d only by views, %d survive, %.1f s' % (
+        seed, len(MUTANTS), len(by_trace), len(by_image), len(by_view), len(alive), time.monotonic() - began))
     print('only by images: %s' % ' '.join(by_image))
+    print('only by views: %s' % ' '.join(by_view))
     for name in alive:
         print('survives: %s: %s' % (name, SURVIVORS.get(name, 'not expected')))
     for line in wrong:

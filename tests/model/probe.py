@@ -6,19 +6,32 @@ import sys
 from device import Device, Image
 from trace import UNREADABLE, answer_line, split_lines
 
-# Registers, level, reference, held, edge, pointer, bus state, address choice, kind, argument.
-WIDTHS = (256, 16, 16, 16, 16, 2, 2, 2, 8, 16)
-LINE = re.compile(b'\t'.join(b'([0-9a-f]{%d})' % width for width in WIDTHS))
+# Registers, level, reference, held, edge, pointer, bus state, address choice.
+IMAGE_WIDTHS = (256, 16, 16, 16, 16, 2, 2, 2)
+# An image, kind, argument.
+WIDTHS = IMAGE_WIDTHS + (8, 16)
 
 
-def read_line(line):
-    """(image, kind, argument), None if unreadable."""
-    found = LINE.fullmatch(line)
+def line_form(widths):
+    return re.compile(b'\t'.join(b'([0-9a-f]{%d})' % width for width in widths))
+
+
+LINE = line_form(WIDTHS)
+
+
+def read_fields(form, line):
+    """An image and the numbers after it, None if unreadable."""
+    found = form.fullmatch(line)
     if not found:
         return None
     registers = tuple(bytes.fromhex(found.group(1).decode()))
     numbers = [int(field, 16) for field in found.groups()[1:]]
-    return Image(registers, *numbers[:7]), numbers[7], numbers[8]
+    return (Image(registers, *numbers[:7]), *numbers[7:])
+
+
+def read_line(line):
+    """(image, kind, argument), None if unreadable."""
+    return read_fields(LINE, line)
 
 
 def image_fields(image):

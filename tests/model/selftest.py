@@ -8,6 +8,7 @@ import generate
 import judge
 import probe
 import trace
+import views
 from device import (ARMED, BYTE, CALL, DEAF, FETCH, FILLING, GROUPS, IDLE, LEVELS, OPENED, RESET, SENDING, SET_LIMIT,
                     START, STOP, TEN, Device)
 
@@ -228,24 +229,62 @@ def test_limits():
         assert not isinstance(device.step(kind, arg), tuple)
 
 
+def with_entry(image, number, value):
+    registers = list(image.registers)
+    registers[number] = value
+    return image._replace(registers=tuple(registers))
+
+
+def broken_images(sound):
+    """An image broken in every way."""
+    return (sound._replace(pointer=0x03), sound._replace(pointer=0x7F), sound._replace(pointer=0x80),
+            sound._replace(bus=8), sound._replace(choice=4), sound._replace(level=SET_LIMIT),
+            sound._replace(reference=SET_LIMIT), sound._replace(held=SET_LIMIT), sound._replace(edge=SET_LIMIT),
+            *(with_entry(sound, *entry) for entry in ((0x5C, 8), (0x00, 1), (0x03, 1), (0x58, 1), (0x69, 128),
+                                                      (0x6E, 1), (0x7F, 1))))
+
+
 def test_broken_images():
     sound = Device.make(1, 5).image()
-
-    def entry(number, value):
-        registers = list(sound.registers)
-        registers[number] = value
-        return sound._replace(registers=tuple(registers))
-
-    for image in (sound._replace(pointer=0x03), sound._replace(pointer=0x7F), sound._replace(pointer=0x80),
-                  sound._replace(bus=8), sound._replace(choice=4), sound._replace(level=SET_LIMIT),
-                  sound._replace(reference=SET_LIMIT), sound._replace(held=SET_LIMIT), sound._replace(edge=SET_LIMIT),
-                  entry(0x5C, 8), entry(0x00, 1), entry(0x03, 1), entry(0x58, 1), entry(0x69, 128), entry(0x6E, 1),
-                  entry(0x7F, 1)):
+    for image in broken_images(sound):
         for kind, arg in ((START, 0), (6, 0), (BYTE, 256)):
             assert Device(image).step(kind, arg) == ('refused', 3), image
-    for image in (sound, sound._replace(bus=7), sound._replace(choice=3), entry(0x5C, 7),
+    for image in (sound, sound._replace(bus=7), sound._replace(choice=3), with_entry(sound, 0x5C, 7),
                   sound._replace(edge=SET_LIMIT - 1), sound._replace(pointer=0x76)):
         assert Device(image).step(START, 0) == '-'
+
+
+def test_views():
+    """Pin 0 is unmasked and has left its reference, pin 8 is driven high, pin 9 low."""
+    bench = Bench()
+    bench.write(0x54, 0xFE)
+    bench.write(0x05, 0xFD)
+    bench.write(0x0D, 0xFC)
+    bench.pins(1)
+    sound = bench.device.image()
+    for number, told in ((0x00, 0x01), (0x58, 0x01), (0x0D, 0xFC), (0x68, 0x00), (0x76, 0x00), (0x03, ('refused', 2)),
+                         (0x77, ('refused', 2)), (0x7F, ('refused', 2)), (0x80, ('refused', 2)), (0xD4, ('refused', 2)),
+                         (0x100, ('refused', 2)), (0x154, ('refused', 2)), (0xFFFFFF54, ('refused', 2))):
+        device = Device(sound)
+        assert (device.told_byte(number), device.told_int(), device.told_drives()) == (told, 0, (0x200, 0x100)), number
+        assert device.image() == sound
+    for image in broken_images(sound):
+        device = Device(image)
+        for number in (0x00, 0x03, 0x80, 0x100):
+            assert device.told_byte(number) == ('refused', 3), (image, number)
+        assert device.told_int() == device.told_drives() == ('refused', 3), image
+
+
+def test_views_reader():
+    sound = Device.make(2, 5).image()
+    for image, number, answer in (
+            (sound, 0x00, b'05\t1\t000000\t000000\n'), (sound, 0x03, b'refused\t2\t1\t000000\t000000\n'),
+            (sound._replace(bus=8), 0x00, b'refused\t3\trefused\t3\trefused\t3\n')):
+        line = ('%s\t%08x' % (probe.image_fields(image), number)).encode()
+        assert views.run_lines(line) == views.run_lines(line + b'\n') == answer
+    rng = random.Random(8)
+    for _ in range(200):
+        assert views.run_lines(generate.spoiled_line(rng, line) + b'\n') == b'refused\t7\n'
 
 
 def test_probe_reader():

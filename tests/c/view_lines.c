@@ -1,0 +1,86 @@
+/* Views of the library for lines of an image's eight fields and a register number: the byte that a fetch would show, INT, the pins
+ * driven low and high, as the program trace answers; in the place of what was refused its refusal. So the model judges them. */
+#include "guarded.h"
+#include "image_text.h"
+#include "peer_text.h"
+
+enum { LINE_BYTES = 342, MOST_VIEWS_BYTES = 32 };
+
+struct asked {
+    struct ghixramel device;
+    uint32_t number;
+};
+
+static const uint8_t *image_fields(const uint8_t *at, struct ghixramel *device)
+{
+    uint64_t value = 0;
+    at = registers_field(at, device->registers);
+    for (int i = 0; i < 4; i++)
+        at = field(at, 16, &device->pins[i]);
+    for (int i = 0; i < 3; i++) {
+        at = field(at, 2, &value);
+        device->bus[i] = (uint8_t)value;
+    }
+    return at;
+}
+
+/* The fields have fixed widths, so a line of the right length with a tab after each of eight fields has no room for more. */
+static int read_asked(const uint8_t *line, size_t length, struct asked *asked)
+{
+    uint8_t text[LINE_BYTES + 1];
+    uint64_t number = 0;
+    if (length != LINE_BYTES)
+        return 0;
+    memcpy(text, line, LINE_BYTES);
+    text[LINE_BYTES] = '\n';
+    int readable = field(image_fields(text, &asked->device), 8, &number) != NULL;
+    asked->number = (uint32_t)number;
+    return readable;
+}
+
+static uint8_t *put_byte_shown(uint8_t *to, const struct ghixramel *device, uint32_t number)
+{
+    uint8_t shown[1] = {0};
+    uint32_t refusal = guarded_show(device, number, shown);
+    return refusal ? put_refused(to, refusal) : put_hex(to, shown[0], 2);
+}
+
+/* The line's level, subtracted, so that a result other than 0 and 1 is seen. */
+static uint8_t *put_int(uint8_t *to, const struct ghixramel *device)
+{
+    uint8_t asserted[1] = {0};
+    uint32_t refusal = guarded_int(device, asserted);
+    return refusal ? put_refused(to, refusal) : put_byte(to, (uint8_t)('1' - asserted[0]));
+}
+
+static uint8_t *put_drives(uint8_t *to, const struct ghixramel *device)
+{
+    uint64_t drives[2] = {0};
+    uint32_t refusal = guarded_drives(device, drives);
+    if (refusal)
+        return put_refused(to, refusal);
+    to = put_hex(to, (uint32_t)drives[0], 6);
+    return put_hex(put_byte(to, '\t'), (uint32_t)drives[1], 6);
+}
+
+static uint8_t *put_views(uint8_t *to, const struct asked *asked)
+{
+    to = put_byte(put_byte_shown(to, &asked->device, asked->number), '\t');
+    to = put_byte(put_int(to, &asked->device), '\t');
+    return put_byte(put_drives(to, &asked->device), '\n');
+}
+
+int main(void)
+{
+    static struct stream stream;
+    const uint8_t *line;
+    size_t length;
+    while ((line = next_line(&stream, LINE_BYTES, &length))) {
+        struct asked asked = {0};
+        uint8_t *to = put_begin(&stream, MOST_VIEWS_BYTES);
+        to = read_asked(line, length, &asked) ? put_views(to, &asked) : put_refusal(to, UNREADABLE);
+        put_end(&stream, to);
+    }
+    flush(&stream);
+    return 0;
+}
