@@ -13,7 +13,7 @@ use Rattle.bits.proofs.Decide.{eachBool, clash, and-left, and-right, either-arm
 use Rattle.pins.specs.AllPins.{Within}
 use Rattle.pins.specs.declared.Sets.{Sets}
 use Rattle.pins.proofs.AllPins.{map-within}
-use Rattle.map.specs.Map.{Part, Kind, part24, kindAt, reserved, next, stored, defaults, fitting, fittingFrom, fileFits}
+use Rattle.map.specs.Map.{Part, Kind, part24, kindAt, reserved, next, stored, defaults, fitting, fittingAt, fittingFrom, fileFits}
 use Rattle.map.specs.Map.Kind.{Reserved, Input, Status, InputStatus, Configuration, Latch, Mask, PortKind, Edge, Clear, Output, Polarity, PinKind, Stored}
 use Rattle.registers.specs.Registers.{keptAs, writtenAs, fetched, levelled}
 use Rattle.bus.specs.Device.{State, Event, Bus, Outcome, number, busAt, state, out, goes, addressByte, byteIn, fetchIn, resetted, step}
@@ -30,7 +30,7 @@ use Rattle.pinwise.proofs.Pinwise.{load-set}
 -- ---- the file, entry by entry
 module _ (p : Part) (file : List ℕ) where
   abbrev Fine : ℕ → Type 0
-  Fine m = fitting p (kindAt p m) (getD file m 0) ≡ true
+  Fine m = fittingAt p m (getD file m 0) ≡ true
 
   from-entries : (n a : ℕ) → ((m : ℕ) → m < a + n → Fine m) → fittingFrom p file a n ≡ true
   from-entries zero a f = refl
@@ -40,11 +40,11 @@ module _ (p : Part) (file : List ℕ) where
   to-entry : (n a j : ℕ) → fittingFrom p file a n ≡ true → j < n → Fine (a + j)
   to-entry zero a j e h = absurd (omega arith)
   to-entry (suc n) a zero e h =
-      ap (λ (m : ℕ). fitting p (kindAt p m) (getD file m 0)) (omega arith)
-      ∙ and-left (fitting p (kindAt p a) (getD file a 0)) (fittingFrom p file (suc a) n) e
+      ap (λ (m : ℕ). fittingAt p m (getD file m 0)) (omega arith)
+      ∙ and-left (fittingAt p a (getD file a 0)) (fittingFrom p file (suc a) n) e
   to-entry (suc n) a (suc j) e h =
-      ap (λ (m : ℕ). fitting p (kindAt p m) (getD file m 0)) (omega arith)
-      ∙ to-entry n (suc a) j (and-right (fitting p (kindAt p a) (getD file a 0)) (fittingFrom p file (suc a) n) e) (omega arith)
+      ap (λ (m : ℕ). fittingAt p m (getD file m 0)) (omega arith)
+      ∙ to-entry n (suc a) j (and-right (fittingAt p a (getD file a 0)) (fittingFrom p file (suc a) n) e) (omega arith)
 
   entries-fit : ((m : ℕ) → m < 128 → Fine m) → fileFits p file ≡ true
   unfolding fileFits
@@ -52,7 +52,7 @@ module _ (p : Part) (file : List ℕ) where
 
   fits-entry : fileFits p file ≡ true → (m : ℕ) → m < 128 → Fine m
   unfolding fileFits
-  fits-entry e m h = ap (λ (k : ℕ). fitting p (kindAt p k) (getD file k 0)) (omega arith) ∙ to-entry 128 0 m e h
+  fits-entry e m h = ap (λ (k : ℕ). fittingAt p k (getD file k 0)) (omega arith) ∙ to-entry 128 0 m e h
 
 -- what is kept of a written byte may stand there
 kept-fits : (k : Kind) (v : ℕ) → stored k ≡ true → fitting part24 k (keptAs part24 k v) ≡ true

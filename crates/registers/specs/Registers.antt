@@ -10,7 +10,7 @@ use Rattle.pins.specs.OnePin.{Registers, OnePin, Happening, registers, pinAfter
 use Rattle.pins.specs.OnePin.Happening.{LevelTo, InputFetched, ClearWritten, MaskWritten, EdgeWritten, LatchWritten, ConfigurationWritten, OutputWritten, PolarityWritten, PortKindWritten, PinKindWritten, StoredWritten, Elsewhere}
 use Rattle.pins.specs.declared.Sets.{Sets}
 use Rattle.ports.specs.Ports.{inPort, portBit, byteOf, inEdge, risingBit, fallingBit}
-use Rattle.map.specs.Map.{Part, Kind, firstOf, kindAt, stored}
+use Rattle.map.specs.Map.{Part, Kind, firstOf, kindAt, stored, keptIn}
 use Rattle.map.specs.Map.Kind.{Reserved, Input, Status, InputStatus, Configuration, Latch, Mask, PortKind, Edge, Clear, Output, Polarity, PinKind, Stored}
 
 -- the register file, one byte for each command number, and what is stored of the pins
@@ -116,7 +116,7 @@ keptAs p Stored v = v
 
 unfoldable pub writtenAs : Part → Kind → Core → (n v : ℕ) → Core
 writtenAs p k s n v =
-    core (cond (stored k) (set (s .file) n (keptAs p k v)) (s .file))
+    core (cond (stored k) (set (s .file) n (keptIn p n (keptAs p k v))) (s .file))
     (mapPins (p .width) (s .sets) (λ i. pinAfter (writtenTo p k n v i) (registersAt p (s .file) i)))
 
 -- v is written to register n

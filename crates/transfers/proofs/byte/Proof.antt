@@ -1,3 +1,4 @@
+use Rattle.map.specs.Map.{part24}
 use borrow.Author.Needs.{needs}
 use mathlib.Core.Path.{refl, ap, _∙_}
 use Rattle.bus.specs.Device.{out, byteIn}
@@ -16,7 +17,7 @@ returns c =
     let start = c .before .before in
     let file = start .args .file .now in
     let s = stateOf file (start .args .r) in
-    at-bus s (start .args .b) 1 (c .before .if1 .taken) (c .byte-opened .ensures file)
+    at-bus part24 s (start .args .b) 1 (c .before .if1 .taken) (c .byte-opened .ensures file)
 
 byte-chosen-requires : tie.Need-byte-chosen-requires
 byte-chosen-requires c κs = search needs
@@ -26,7 +27,7 @@ returns-2 c =
     let start = c .before .before .before in
     let file = start .args .file .now in
     let s = stateOf file (start .args .r) in
-    at-bus s (start .args .b) 2 (c .before .if2 .taken) (c .byte-chosen .ensures file)
+    at-bus part24 s (start .args .b) 2 (c .before .if2 .taken) (c .byte-chosen .ensures file)
 
 byte-filling-requires : tie.Need-byte-filling-requires
 byte-filling-requires c κs = search needs
@@ -36,7 +37,7 @@ returns-3 c =
     let start = c .before .before .before .before .before in
     let file = start .args .file .now in
     let s = stateOf file (start .args .r) in
-    at-bus s (start .args .b) 3 (c .before .before .if3 .taken) (c .byte-filling .ensures)
+    at-bus part24 s (start .args .b) 3 (c .before .before .if3 .taken) (c .byte-filling .ensures)
 
 byte-call-requires : tie.Need-byte-call-requires
 byte-call-requires c κs = search needs
@@ -46,7 +47,7 @@ returns-4 c =
     let start = c .before .before .before .before .before in
     let file = start .args .file .now in
     let s = stateOf file (start .args .r) in
-    at-bus s (start .args .b) 5 (c .before .if4 .taken) (c .byte-call .ensures file)
+    at-bus part24 s (start .args .b) 5 (c .before .if4 .taken) (c .byte-call .ensures file)
 
 not-acked-requires : tie.Need-not-acked-requires
 not-acked-requires c κs = search needs
@@ -58,7 +59,7 @@ returns-5 c =
     let file = start .args .file .now in
     let s = stateOf file (start .args .r) in
     ap (λ (o : Out). out (o .answer) (stateOf file (o .rest))) (c .not-acked .ensures)
-    ∙ at-bus s (start .args .b) 0 (c .before .if5 .taken) refl
+    ∙ at-bus part24 s (start .args .b) 0 (c .before .if5 .taken) refl
 
 moved-requires : tie.Need-moved-requires
 moved-requires c κs = search needs
@@ -73,7 +74,7 @@ returns-6 c =
     let s = stateOf file (start .args .r) in
     let at = c .before .before in
     told file Nak (c .not-acked2 .ensures) (c .before .moved .ensures)
-    ∙ no-byte s (start .args .b) (start .pre .bus-small) (at .if5 .left) (at .before .before .before .before .if1 .left)
+    ∙ no-byte part24 s (start .args .b) (start .pre .bus-small) (at .if5 .left) (at .before .before .before .before .if1 .left)
     (at .before .before .before .if2 .left) (at .before .before .if3 .left) (at .before .if4 .left)
 
 pub byte-spec : {M : Type 1} → statement M

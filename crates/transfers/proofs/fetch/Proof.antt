@@ -1,3 +1,4 @@
+use Rattle.map.specs.Map.{part24}
 use borrow.Author.Needs.{needs}
 use mathlib.Core.Path.{refl, ap, _∙_}
 use Rattle.bus.specs.Device.{out, fetchIn}
@@ -17,7 +18,7 @@ returns c =
     let file = start .args .file .now in
     let s = stateOf file (start .args .r) in
     ap (λ (o : Out). out (o .answer) (stateOf file (o .rest))) (c .read .ensures)
-    ∙ stray-fetch s (start .args .acknowledged) (c .before .if1 .taken)
+    ∙ stray-fetch part24 s (start .args .acknowledged) (c .before .if1 .taken)
 
 show-requires : tie.Need-show-requires
 show-requires c κs = search needs
@@ -39,7 +40,7 @@ returns-2 c =
     let s = stateOf file (start .args .r) in
     let at = c .before .before in
     ap (λ (o : Out). out (o .answer) (stateOf file (o .rest))) (c .read2 .ensures)
-    ∙ sending s (start .args .acknowledged) (at .before .before .before .before .if1 .left)
+    ∙ sending part24 s (start .args .acknowledged) (at .before .before .before .before .if1 .left)
     (same-outcome (ap Byte (at .before .before .show .ensures))
     (simp (at .if2 .taken) (same-state (at .before .fetch .ensures file) (c .before .next-of .ensures) refl refl)))
 
@@ -54,7 +55,7 @@ returns-3 c =
     let s = stateOf file (start .args .r) in
     let at = c .before in
     ap (λ (o : Out). out (o .answer) (stateOf file (o .rest))) (c .read3 .ensures)
-    ∙ sending s (start .args .acknowledged) (at .before .before .before .before .if1 .left)
+    ∙ sending part24 s (start .args .acknowledged) (at .before .before .before .before .if1 .left)
     (same-outcome (ap Byte (at .before .before .show .ensures)) (simp (at .if2 .left) (same-state (at .before .fetch .ensures file) refl refl refl)))
 
 pub fetch-spec : {M : Type 1} → statement M

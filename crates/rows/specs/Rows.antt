@@ -1,0 +1,26 @@
+-- What a register number means to the engine, as one number, its row: computed from the part's map.
+use mathlib.Core.Bool.{cond}
+use Prim.Native.Nat.{ℕ, _+_, _-_, _*_, _/_, _^_}
+use lib.Bits.{bitAnd}
+use lib.Dec.{eqb}
+use Rattle.map.specs.Map.{Part, kindAt, code, reserved, next, roomAt}
+use Rattle.words.specs.Words.{slotAt, digitAt, paired, strengthWord}
+
+-- what writing and reading it does: its kind's number; 14 for drive strength, which is stored like the others but in two words
+abbrev pub ruleAt : Part → ℕ → ℕ
+ruleAt p n = cond (eqb (slotAt p n) strengthWord) 14 (code (kindAt p n))
+
+-- where its lowest bit stands in its word
+abbrev pub shiftAt : Part → ℕ → ℕ
+shiftAt p n = cond (paired (slotAt p n)) (4 * digitAt p n) (8 * digitAt p n)
+
+-- From the lowest bit on: its rule in 4 bits, its word in 5, its shift in 6, its successor in its group in 7; from bit 24 on a 1 for each bit of it that exists.
+-- A reserved number's row is 0.
+unfoldable pub rowAt : Part → ℕ → ℕ
+rowAt p n =
+    cond (reserved p n) 0
+    (ruleAt p n + slotAt p n * 2 ^ 4 + shiftAt p n * 2 ^ 9 + next p n * 2 ^ 15 + (2 ^ roomAt p n - 1) * 2 ^ 24)
+
+-- the word that a row names, of whatever number it is
+abbrev pub wordIn : ℕ → ℕ
+wordIn row = bitAnd (row / 2 ^ 4) 31

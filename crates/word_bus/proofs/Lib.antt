@@ -1,0 +1,4 @@
+pub mod Left
+pub mod Testing
+pub mod Resetting
+pub mod Judging

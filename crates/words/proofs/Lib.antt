@@ -1,0 +1,12 @@
+pub mod Sound
+pub mod Entries
+pub mod Reading
+pub mod Writing
+pub mod Storing
+pub mod Moving
+pub mod Holding
+pub mod Existing
+pub mod Showing
+pub mod Seen
+pub mod Fits
+pub mod Images
