@@ -13,14 +13,32 @@ use Rattle.text.specs.Text.{Wrote}
 use Rattle.text.proofs.Laws.{wrote-as, wrote-length}
 use Rattle.pieces.specs.Pieces.{newlineAt, Kept}
 
-module _ (piece : List ℕ) (i : ℕ) (inside : i < length piece) where
-  pub newline-here : getD piece i 0 ≡ 0x0a → newlineAt (drop i piece) ≡ 0
+-- a newline that is sought from i on: it is there, or is sought from the next place on
+module _ (piece : List ℕ) (n i : ℕ) (sought : n ≡ i + newlineAt (drop i piece)) (inside : i < length piece) where
+  pub newline-here : getD piece i 0 ≡ 0x0a → i ≡ n
   unfolding newlineAt
-  newline-here h = rw (drop-cons piece i 0, eq-eqb (getD piece i 0) 0x0a h)
+  newline-here h =
+      let z : newlineAt (drop i piece) ≡ 0 = rw (drop-cons piece i 0, eq-eqb (getD piece i 0) 0x0a h) in
+      omega (arith, sought)
 
-  pub newline-later : (getD piece i 0 ≡ 0x0a → ⊥) → newlineAt (drop i piece) ≡ suc (newlineAt (drop (i + 1) piece))
+  pub newline-later : (j : ℕ) → j ≡ i + 1 → (getD piece i 0 ≡ 0x0a → ⊥) → n ≡ j + newlineAt (drop j piece)
   unfolding newlineAt
-  newline-later h = rw (add-one i, drop-cons piece i 0, ne-eqb (getD piece i 0) 0x0a h)
+  newline-later j e h =
+      let z : newlineAt (drop i piece) ≡ suc (newlineAt (drop (i + 1) piece)) =
+      rw (add-one i, drop-cons piece i 0, ne-eqb (getD piece i 0) 0x0a h) in
+      rw e (omega (arith, sought))
+
+-- the next three places on
+module _ (piece : List ℕ) (n i : ℕ) (sought : n ≡ i + newlineAt (drop i piece)) (inside : i + 3 < length piece) (first : getD piece i 0 ≡ 0x0a → ⊥) where
+  pub newline-one-later : n ≡ i + 1 + newlineAt (drop (i + 1) piece)
+  newline-one-later = newline-later piece n i sought (omega arith) (i + 1) (omega arith) first
+
+  module _ (second : getD piece (i + 1) 0 ≡ 0x0a → ⊥) where
+    pub newline-two-later : n ≡ i + 2 + newlineAt (drop (i + 2) piece)
+    newline-two-later = newline-later piece n (i + 1) newline-one-later (omega arith) (i + 2) (omega arith) second
+
+    pub newline-three-later : (getD piece (i + 2) 0 ≡ 0x0a → ⊥) → n ≡ i + 3 + newlineAt (drop (i + 3) piece)
+    newline-three-later = newline-later piece n (i + 2) newline-two-later (omega arith) (i + 3) (omega arith)
 
 take-least : (n : ℕ) (s : List ℕ) → take (min n (length s)) s ≡ take n s
 take-least n s = go (ltb n (length s)) refl

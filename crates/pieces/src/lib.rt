@@ -1,14 +1,15 @@
 // Texts that come in pieces: where a line ends, and what is kept of one that has begun.
 ghost use mathlib.Core.Path.{_≡_};
-ghost use Prim.Native.Nat.{_≤_, min};
-ghost use lib.ListN.{length};
+ghost use Prim.Native.Nat.{_+_, _≤_, min};
+ghost use lib.ListN.{length, drop};
 ghost use Rattle.pieces.specs.Pieces.{newlineAt, Kept};
 
-// Where the first newline stands, or the length.
-pub fn newline_at(piece: &[u8]) -> usize
-    ensures { λ r. ⌜ (r ≡ newlineAt (now (piece .entry))) × (r ≤ length (now (piece .entry))) ⌝ }
+// Where the first newline from a place on stands, or the length.
+fn newline_from(piece: &[u8], from: usize) -> usize
+    requires { ⌜ from ≤ length (now piece) ⌝ }
+    ensures { λ r. ⌜ (r ≡ from + newlineAt (drop from (now (piece .entry)))) × (r ≤ length (now (piece .entry))) ⌝ }
 {
-    let mut i = 0;
+    let mut i = from;
     while i < piece.len() {
         if piece[i] == b'\n' {
             return i;
@@ -16,6 +17,29 @@ pub fn newline_at(piece: &[u8]) -> usize
         i += 1;
     }
     i
+}
+
+// Where the first newline stands, or the length. Four bytes a turn: each turn has a cost of its own.
+pub fn newline_at(piece: &[u8]) -> usize
+    ensures { λ r. ⌜ (r ≡ newlineAt (now (piece .entry))) × (r ≤ length (now (piece .entry))) ⌝ }
+{
+    let mut i = 0;
+    while 3 < piece.len() - i {
+        if piece[i] == b'\n' {
+            return i;
+        }
+        if piece[i + 1] == b'\n' {
+            return i + 1;
+        }
+        if piece[i + 2] == b'\n' {
+            return i + 2;
+        }
+        if piece[i + 3] == b'\n' {
+            return i + 3;
+        }
+        i += 4;
+    }
+    newline_from(piece, i)
 }
 
 fn least(a: usize, b: usize) -> usize

@@ -1,15 +1,17 @@
 -- One turn of each loop, over plain lists. Assumes nothing.
 use mathlib.Core.Path.{_≡_, refl, ap, sym, _∙_}
-use mathlib.Core.Bool.{false, and-false}
+use mathlib.Core.Bool.{false, cond, and-false}
 use mathlib.Core.List.{List, [], _∷_, _++_}
 use Prim.Native.Nat.{ℕ, zero, suc, _+_, _-_, _*_, _/_, _%_, _^_, _<_, _≤_}
 use native.Mathlib.Numerals.{add-one}
 use native.Mathlib.Nat.{pow-suc, pow-le-pow-right, lt-of-lt-of-le}
 use native.Mathlib.Omega.{arith}
-use lib.Dec.{eqb, lit<}
+use lib.Dec.{eqb, ltb, lit<}
+use lib.Bits.{bitAnd, and-le-r}
 use lib.ListN.{length, drop, getD, set, length-append}
 use lib.Seq.{drop-cons, sets, length-sets, set-comm}
 use borrow.Author.Tests.{ne-eqb, eq-eqb, lt-ltb, le-ltb, le-leb, lt-leb}
+use Rattle.bits.proofs.Decide.{each}
 use Rattle.text.specs.declared.Digits.the-variants.{Number, None}
 use Rattle.text.specs.Text.{startsWith, digitOf, numberOf, fieldOf, digitByte, hexText, Wrote}
 
@@ -37,26 +39,46 @@ module _ (n : ℕ) (text : List ℕ) (i : ℕ) (in-text : i < length text) where
   unfolding numberOf
   number-on h = rw (add-one, drop-cons text i 0, lt-ltb (digitOf (getD text i 0)) 16 (omega arith))
 
-module _ (b : ℕ) where
-  pub digit-under : b < 0x30 → 16 ≡ digitOf b
-  unfolding digitOf
-  digit-under h = simp (lt-leb 0x30 b (omega arith), lt-leb 0x61 b (omega arith))
+-- what the code's tests make of a byte, tried at each
+digit-told : (b : ℕ) → b < 256
+    → cond (ltb 63 ((b + 208) % 256)) 16 (cond (eqb (0x7e0000000003ff / 2 ^ ((b + 208) % 256) % 2) 0) 16 ((b + 9 * (b / 64)) % 16)) ≡ digitOf b
+unfolding digitOf
+digit-told = each 256 _ _ tt
 
-  pub digit-number : 0x30 ≤ b → b < 0x3a → b - 0x30 ≡ digitOf b
-  unfolding digitOf
-  digit-number l h = simp (le-leb 0x30 b (omega arith), le-leb b 0x39 (omega arith))
+module _ (b : ℕ) (byte : b < 256) where
+  pub digit-far : 63 < (b + 208) % 256 → 16 ≡ digitOf b
+  digit-far h = rw (lt-ltb 63 _ h) at (digit-told b byte)
 
-  pub digit-between : 0x3a ≤ b → b < 0x61 → 16 ≡ digitOf b
-  unfolding digitOf
-  digit-between l h = simp (le-leb 0x30 b (omega arith), lt-leb b 0x39 (omega arith), lt-leb 0x61 b (omega arith))
+  module _ (near : (b + 208) % 256 ≤ 63) where
+    pub digit-none : 0x7e0000000003ff / 2 ^ ((b + 208) % 256) % 2 ≡ 0 → 16 ≡ digitOf b
+    digit-none h = rw (le-ltb 63 _ near, eq-eqb _ 0 h) at (digit-told b byte)
 
-  pub digit-letter : 0x61 ≤ b → b < 0x67 → b - 0x57 ≡ digitOf b
-  unfolding digitOf
-  digit-letter l h = simp (le-leb 0x30 b (omega arith), lt-leb b 0x39 (omega arith), le-leb 0x61 b (omega arith), le-leb b 0x66 (omega arith))
+    pub digit-is : (0x7e0000000003ff / 2 ^ ((b + 208) % 256) % 2 ≡ 0 → ⊥) → (b + 9 * (b / 64)) % 16 ≡ digitOf b
+    digit-is h = rw (le-ltb 63 _ near, ne-eqb _ 0 h) at (digit-told b byte)
 
-  pub digit-over : 0x67 ≤ b → 16 ≡ digitOf b
-  unfolding digitOf
-  digit-over l = simp (le-leb 0x30 b (omega arith), lt-leb b 0x39 (omega arith), le-leb 0x61 b (omega arith), lt-leb b 0x66 (omega arith))
+-- the code's two digits of a byte in one number: which are letters, and the whole, tried at each
+abbrev lettered : ℕ → ℕ
+lettered b = 39 * bitAnd ((b / 16 % 16 + 256 * (b % 16) + 0x606) / 16) 0x101
+
+abbrev paired : ℕ → ℕ
+paired b = b / 16 % 16 + 256 * (b % 16) + 0x3030 + lettered b
+
+pub pair-first : (b : ℕ) → b < 256 → paired b % 256 ≡ digitByte (b / 16 % 16)
+pair-first = each 256 _ _ tt
+
+pub pair-second : (b : ℕ) → b < 256 → paired b / 256 % 256 ≡ digitByte (b % 16)
+pair-second = each 256 _ _ tt
+
+pub pair-fits : (b : ℕ) → (lettered b < 2 ^ 64) × (paired b < 2 ^ 64)
+pair-fits b = let h = and-le-r ((b / 16 % 16 + 256 * (b % 16) + 0x606) / 16) 0x101 in (omega arith, omega arith)
+
+-- the digits of a number's lowest byte
+module _ (n : ℕ) where
+  pub byte-first : digitByte (n % 256 / 16 % 16) ≡ digitByte (n / 16 % 16)
+  byte-first = let e : n % 256 / 16 % 16 ≡ n / 16 % 16 = omega arith in ap digitByte e
+
+  pub byte-second : digitByte (n % 256 % 16) ≡ digitByte (n % 16)
+  byte-second = let e : n % 256 % 16 ≡ n % 16 = omega arith in ap digitByte e
 
 -- a run of stores, then another from where it ended
 sets-append : (out : List ℕ) (at : ℕ) (s t : List ℕ) → sets (sets out at s) (at + length s) t ≡ sets out at (s ++ t)

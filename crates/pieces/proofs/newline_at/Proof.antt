@@ -1,11 +1,10 @@
-use native.Mathlib.Omega.{arith}
 use borrow.Author.Needs.{needs}
-use mathlib.Core.Path.{_≡_, refl}
+use mathlib.Core.Path.{_≡_, sym, _∙_}
+use native.Mathlib.Omega.{arith}
 use Prim.Native.Nat.{_+_, _-_, _≤_}
 use lib.ListN.{length, drop}
-use lib.Seq.{drop-length}
 use Rattle.pieces.specs.Pieces.{newlineAt}
-use Rattle.pieces.proofs.Laws.{newline-here, newline-later}
+use Rattle.pieces.proofs.Laws.{newline-here, newline-later, newline-one-later, newline-two-later, newline-three-later}
 use Rattle.pieces.proofs.newline_at.Statement.{statement}
 use Rattle.pieces.proofs.newline_at.Tie as tie
 
@@ -18,14 +17,68 @@ abbrev μ-loop : tie.MeasureT-loop
 loop-holds : tie.Need-loop-holds Inv-loop μ-loop
 loop-holds c = search needs
 
+sub-loop : tie.Need-sub-loop Inv-loop μ-loop
+sub-loop c = search needs
+
 shared-slice-read-if1 : tie.Need-shared-slice-read-if1 Inv-loop μ-loop
 shared-slice-read-if1 c = search needs
 
 returns : tie.Need-returns Inv-loop μ-loop
 returns c =
     let l = c .before .before .before in
-    let h = newline-here (l .before .args .piece .now) (l .loop .i) (search needs) (c .if1 .taken) in
-    (omega (arith, l .loop .inv .1, h), search needs)
+    (newline-here (l .before .before .args .piece .now) _ (l .loop .i) (l .loop .inv .1) (search needs) (c .if1 .taken), search needs)
+
+add-if2 : tie.Need-add-if2 Inv-loop μ-loop
+add-if2 c = search needs
+
+shared-slice-read-if2 : tie.Need-shared-slice-read-if2 Inv-loop μ-loop
+shared-slice-read-if2 c = search needs
+
+add-result : tie.Need-add-result Inv-loop μ-loop
+add-result c = search needs
+
+returns-2 : tie.Need-returns-2 Inv-loop μ-loop
+returns-2 c =
+    let e = c .before .before in
+    let l = e .before .before .before in
+    let s = l .before .before .args .piece .now in
+    let d = newline-one-later s _ (l .loop .i) (l .loop .inv .1) (search needs) (e .if1 .left) in
+    (newline-here s _ (l .loop .i + 1) d (search needs) (c .if2 .taken), search needs)
+
+add-if3 : tie.Need-add-if3 Inv-loop μ-loop
+add-if3 c = search needs
+
+shared-slice-read-if3 : tie.Need-shared-slice-read-if3 Inv-loop μ-loop
+shared-slice-read-if3 c = search needs
+
+add-result-2 : tie.Need-add-result-2 Inv-loop μ-loop
+add-result-2 c = search needs
+
+returns-3 : tie.Need-returns-3 Inv-loop μ-loop
+returns-3 c =
+    let e = c .before .before in
+    let l = e .before .before .before .before .before in
+    let s = l .before .before .args .piece .now in
+    let d = newline-two-later s _ (l .loop .i) (l .loop .inv .1) (search needs) (e .before .before .if1 .left) (e .if2 .left) in
+    (newline-here s _ (l .loop .i + 2) d (search needs) (c .if3 .taken), search needs)
+
+add-if4 : tie.Need-add-if4 Inv-loop μ-loop
+add-if4 c = search needs
+
+shared-slice-read-if4 : tie.Need-shared-slice-read-if4 Inv-loop μ-loop
+shared-slice-read-if4 c = search needs
+
+add-result-3 : tie.Need-add-result-3 Inv-loop μ-loop
+add-result-3 c = search needs
+
+returns-4 : tie.Need-returns-4 Inv-loop μ-loop
+returns-4 c =
+    let e = c .before .before in
+    let f = e .before .before in
+    let l = f .before .before .before .before .before in
+    let s = l .before .before .args .piece .now in
+    let d = newline-three-later s _ (l .loop .i) (l .loop .inv .1) (search needs) (f .before .before .if1 .left) (f .if2 .left) (e .if3 .left) in
+    (newline-here s _ (l .loop .i + 3) d (search needs) (c .if4 .taken), search needs)
 
 add-i : tie.Need-add-i Inv-loop μ-loop
 add-i c = search needs
@@ -35,17 +88,18 @@ loop-less c = search needs
 
 loop-again : tie.Need-loop-again Inv-loop μ-loop
 loop-again c =
-    let l = c .before .before .before in
-    let h = newline-later (l .before .args .piece .now) (l .loop .i) (search needs) (c .if1 .left) in
-    (search needs, omega (arith, l .loop .inv .1, h))
+    let e = c .before .before in
+    let f = e .before .before in
+    let l = f .before .before .before .before .before in
+    let s = l .before .before .args .piece .now in
+    let d = newline-three-later s _ (l .loop .i) (l .loop .inv .1) (search needs) (f .before .before .if1 .left) (f .if2 .left) (e .if3 .left) in
+    (search needs, newline-later s _ (l .loop .i + 3) d (search needs) (l .loop .i + 4) (omega arith) (c .if4 .left))
 
-returns-2 : tie.Need-returns-2 Inv-loop μ-loop
-unfolding newlineAt
-returns-2 c =
-    let l = c .before in
-    let e : l .loop .i ≡ length (l .before .args .piece .now) = omega arith in
-    let h : newlineAt (drop (l .loop .i) (l .before .args .piece .now)) ≡ 0 = rw (e, drop-length) refl in
-    (omega (arith, l .loop .inv .1, h), search needs)
+newline-from-requires : tie.Need-newline-from-requires Inv-loop μ-loop
+newline-from-requires c κs = search needs
+
+returns-5 : tie.Need-returns-5 Inv-loop μ-loop
+returns-5 c = (c .newline-from .ensures .0 ∙ sym (c .before .before .loop .inv .1), c .newline-from .ensures .1)
 
 pub newline-at-spec : {M : Type 1} → statement M
 newline-at-spec =
@@ -54,9 +108,23 @@ newline-at-spec =
     Inv-loop
     μ-loop
     loop-holds
+    sub-loop
     shared-slice-read-if1
     returns
+    add-if2
+    shared-slice-read-if2
+    add-result
+    returns-2
+    add-if3
+    shared-slice-read-if3
+    add-result-2
+    returns-3
+    add-if4
+    shared-slice-read-if4
+    add-result-3
+    returns-4
     add-i
     loop-less
     loop-again
-    returns-2)
+    newline-from-requires
+    returns-5)

@@ -4,15 +4,18 @@ use Rattle.text.specs.Text.{hexText}
 use Rattle.text.proofs.hex2.Statement.{statement}
 use Rattle.text.proofs.hex2.Tie as tie
 
-digit-byte-requires : tie.Need-digit-byte-requires
-digit-byte-requires c κs = search needs
+pair-requires : tie.Need-pair-requires
+pair-requires c κs = search needs
 
-digit-byte-requires-2 : tie.Need-digit-byte-requires-2
-digit-byte-requires-2 c κs = search needs
+cast-t4 : tie.Need-cast-t4
+cast-t4 c = search needs
+
+cast-t7 : tie.Need-cast-t7
+cast-t7 c = search needs
 
 returns : tie.Need-returns
 unfolding hexText
-returns c = λ j. c .before .digit-byte .ensures j ∷ c .digit-byte2 .ensures j ∷ []
+returns c = λ j. c .pair .ensures .0 j ∷ c .pair .ensures .1 j ∷ []
 
 pub hex2-spec : {M : Type 1} → statement M
-hex2-spec = tie.close (tie.spec digit-byte-requires digit-byte-requires-2 returns)
+hex2-spec = tie.close (tie.spec pair-requires cast-t4 cast-t7 returns)
