@@ -1,17 +1,16 @@
 -- A log in pieces: what a piece gives, and what is carried to the next.
 use mathlib.Core.Path.{_≡_}
-use mathlib.Core.Bool.{cond}
+use mathlib.Core.Bool.{false, cond}
 use mathlib.Core.List.{List, [], _∷_, _++_}
 use Prim.Native.Nat.{ℕ, _+_, _≤_}
 use lib.Dec.{eqb, ltb}
-use lib.ListN.{length, take}
+use lib.ListN.{length, getD, take}
 use Rattle.text.specs.Text.{Wrote}
 use Rattle.pieces.specs.Pieces.{newlineAt}
 use Rattle.lines.specs.Lines.{lineOf}
-use Rattle.tracing.specs.Tracing.{Session, Traced, traced, sessionOf}
+use Rattle.word_bus.specs.Packed.{partWord}
+use Rattle.tracing.specs.Tracing.{Session, Traced, traced, sessionOf, Kept}
 use Rattle.tracing.specs.Tracing.Session.{NoDevice}
-use Rattle.tracing.specs.declared.Desk.{Desk}
-use Rattle.logs.specs.declared.Reader.{Reader}
 use Rattle.logs.specs.Logs.{header}
 
 -- what there is, and the line that has begun, of which 33 bytes are kept: it is too long whatever follows
@@ -23,8 +22,8 @@ pub record Reading : Type 0 where
 abbrev pub opened : Reading
 opened = record { session = NoDevice; begun = [] }
 
-abbrev pub readingOf : (file held : List ℕ) → Reader → Reading
-readingOf file held r = record { session = sessionOf file (r .desk); begun = take (r .len) held }
+abbrev pub readingOf : (words held : List ℕ) → (len : ℕ) → Reading
+readingOf words held len = record { session = sessionOf words; begun = take len held }
 
 abbrev pub grown : Reading → List ℕ → Reading
 grown r more = record { session = r .session; begun = take 33 (r .begun ++ more) }
@@ -60,12 +59,14 @@ unfoldable pub firstGiven : Reading → (piece : List ℕ) → Given
 firstGiven r piece =
     cond (ltb (newlineAt piece) (length piece)) (ended (grown r (take (newlineAt piece) piece))) (record { text = []; after = grown r piece })
 
--- the answers written from at on, and the register file, the held bytes and the reader after
-pub record Gives (g : Given) (out : List ℕ) (at end : ℕ) (left file held : List ℕ) (r : Reader) : Type 0 where
+-- the answers written from at on, and the words, the held bytes and how many of them count after them; where there is still no device, the words are as they were
+pub record Gives (g : Given) (words₀ : List ℕ) (out : List ℕ) (at end : ℕ) (left words held : List ℕ) (len : ℕ) : Type 0 where
   pub wrote : Wrote out at (g .text) end left
-  pub goes-on : readingOf file held r ≡ g .after
-  pub small : r .len ≤ 33
+  pub goes-on : readingOf words held len ≡ g .after
+  pub small : len ≤ 33
   pub whole : length held ≡ 33
+  pub kept : Kept words
+  pub untouched : eqb (getD words partWord 0) 0 ≡ false → words ≡ words₀
 
 -- at the end of the log: a line that has begun counts
 unfoldable pub atEnd : Reading → Given
@@ -74,11 +75,13 @@ atEnd r = cond (eqb (length (r .begun)) 0) (record { text = []; after = r }) (en
 abbrev pub lastText : Reading → List ℕ
 lastText r = atEnd r .text
 
--- its answer written from at on, and what there is after it: in the register file and on the desk
-pub record Ends (r : Reading) (out : List ℕ) (at end : ℕ) (left file : List ℕ) (d : Desk) : Type 0 where
+-- its answer written from at on, and what the words hold after it
+pub record Ends (r : Reading) (words₀ : List ℕ) (out : List ℕ) (at end : ℕ) (left words : List ℕ) : Type 0 where
   pub wrote : Wrote out at (lastText r) end left
-  pub goes-on : sessionOf file d ≡ atEnd r .after .session
+  pub goes-on : sessionOf words ≡ atEnd r .after .session
   pub within : end ≤ length left
+  pub kept : Kept words
+  pub untouched : eqb (getD words partWord 0) 0 ≡ false → words ≡ words₀
 
 -- ---- a log that arrives in any pieces
 unfoldable pub joined : (pieces : List (List ℕ)) → List ℕ

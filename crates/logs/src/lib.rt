@@ -4,162 +4,132 @@ ghost use mathlib.Core.List.{List};
 ghost use Prim.Native.Nat.{ℕ, _+_, _*_, _≤_};
 ghost use lib.ListN.{length};
 ghost use Rattle.text.specs.Text.{Wrote};
-ghost use Rattle.tracing.specs.Tracing.{Says, Untouched};
+ghost use Rattle.tracing.specs.Tracing.{Kept, Says};
 ghost use Rattle.logs.specs.Logs.{header};
 ghost use Rattle.logs.specs.Pieces.{readingOf, opened, grown, answerOf, given, takenOf, firstGiven, Gives, Ends};
-use bus::Rest;
-use pins::Sets;
-use tracing::Desk;
-use tracing::Told;
 
-// What is carried from piece to piece beside the register file and the held bytes, which the caller lends: the desk,
-// and how many bytes of the line that has begun are held.
-pub struct Reader {
-    pub desk: Desk,
-    pub len: usize,
-}
-
-// The reader after some answers, and where they end.
+// How many bytes of the line that has begun are held, and where the answers end.
 pub struct Fed {
-    pub reader: Reader,
+    pub len: usize,
     pub end: usize,
 }
 
-// The line that has begun, with these bytes.
-fn grow(held: &mut [u8; 33], r: Reader, part: &[u8]) -> Reader
-    requires { ⌜ r .len ≤ 33 ⌝ }
-    ensures { λ y. ⌜ ((file : List ℕ) → readingOf file (now (held .exit)) y ≡ grown (readingOf file (now (held .entry)) r) (now (part .entry))) × (length (now (held .exit)) ≡ 33) × (y .len ≤ 33) × (y .desk ≡ r .desk) ⌝ }
+// The line that has begun, with these bytes: how many of them are held then.
+fn grow(held: &mut [u8; 33], len: usize, part: &[u8]) -> usize
+    requires { ⌜ len ≤ 33 ⌝ }
+    ensures { λ y. ⌜ ((words : List ℕ) → readingOf words (now (held .exit)) y ≡ grown (readingOf words (now (held .entry)) len) (now (part .entry)))
+        × (length (now (held .exit)) ≡ 33) × (y ≤ 33) ⌝ }
 {
-    let desk = r.desk;
-    let len = r.len;
-    let end = pieces::keep(held, len, part);
-    Reader { desk, len: end }
+    pieces::keep(held, len, part)
 }
 
 // The line that has begun ends with this part: its answer is written from at on.
 fn joined_line(
-    file: &mut [u8; 128],
+    words: &mut [u64; 28],
     held: &mut [u8; 33],
-    r: Reader,
+    len: usize,
     part: &[u8],
     out: &mut [u8],
     at: usize,
-) -> Told
-    requires { ⌜ (r .len ≤ 33) × (length (now held) ≡ 33) × (at + 26 ≤ length (now out)) ⌝ }
-    ensures { λ t. ⌜ Says (answerOf (grown (readingOf (now (file .entry)) (now (held .entry)) r) (now (part .entry)))) (now (out .entry)) at (t .end) (now (out .exit)) (now (file .exit)) (t .desk)
-        × (length (now (held .exit)) ≡ 33) × Untouched (now (file .entry)) (r .desk) (now (file .exit)) (t .desk) ⌝ }
+) -> usize
+    requires { ⌜ Kept (now words) × (len ≤ 33) × (length (now held) ≡ 33) × (at + 26 ≤ length (now out)) ⌝ }
+    ensures { λ end. ⌜ Says (answerOf (grown (readingOf (now (words .entry)) (now (held .entry)) len) (now (part .entry)))) (now (words .entry)) (now (out .entry)) at end (now (out .exit)) (now (words .exit))
+        × (length (now (held .exit)) ≡ 33) ⌝ }
 {
-    let line = grow(held, r, part);
-    let desk = line.desk;
-    let len = line.len;
+    let all = grow(held, len, part);
     let bytes = *held;
-    tracing::answer_line(file, desk, &bytes[0..len], out, at)
+    tracing::answer_line(words, &bytes[0..all], out, at)
 }
 
 // The same; a line that lies whole in the piece is read where it lies.
 fn end_line(
-    file: &mut [u8; 128],
+    words: &mut [u64; 28],
     held: &mut [u8; 33],
-    r: Reader,
+    len: usize,
     part: &[u8],
     out: &mut [u8],
     at: usize,
-) -> Told
-    requires { ⌜ (r .len ≤ 33) × (length (now held) ≡ 33) × (at + 26 ≤ length (now out)) ⌝ }
-    ensures { λ t. ⌜ Says (answerOf (grown (readingOf (now (file .entry)) (now (held .entry)) r) (now (part .entry)))) (now (out .entry)) at (t .end) (now (out .exit)) (now (file .exit)) (t .desk)
-        × (length (now (held .exit)) ≡ 33) × Untouched (now (file .entry)) (r .desk) (now (file .exit)) (t .desk) ⌝ }
+) -> usize
+    requires { ⌜ Kept (now words) × (len ≤ 33) × (length (now held) ≡ 33) × (at + 26 ≤ length (now out)) ⌝ }
+    ensures { λ end. ⌜ Says (answerOf (grown (readingOf (now (words .entry)) (now (held .entry)) len) (now (part .entry)))) (now (words .entry)) (now (out .entry)) at end (now (out .exit)) (now (words .exit))
+        × (length (now (held .exit)) ≡ 33) ⌝ }
 {
-    if r.len == 0 {
-        let desk = r.desk;
-        return tracing::answer_line(file, desk, part, out, at);
+    if len == 0 {
+        return tracing::answer_line(words, part, out, at);
     }
-    joined_line(file, held, r, part, out, at)
+    joined_line(words, held, len, part, out, at)
 }
 
-// The reader after a line, where its answer ends, and how much of the piece it took.
+// How many bytes are held after a line, where its answer ends, and how much of the piece it took.
 struct Took {
-    reader: Reader,
+    len: usize,
     end: usize,
     taken: usize,
 }
 
 // The first line of a piece: its answer is written from at on. A piece with no newline is all carried on.
 fn first_line(
-    file: &mut [u8; 128],
+    words: &mut [u64; 28],
     held: &mut [u8; 33],
-    r: Reader,
+    len: usize,
     piece: &[u8],
     out: &mut [u8],
     at: usize,
 ) -> Took
-    requires { ⌜ (r .len ≤ 33) × (length (now held) ≡ 33) × (at + 26 ≤ length (now out)) ⌝ }
-    ensures { λ t. ⌜ Gives (firstGiven (readingOf (now (file .entry)) (now (held .entry)) r) (now (piece .entry))) (now (out .entry)) at (t .end) (now (out .exit)) (now (file .exit)) (now (held .exit)) (t .reader) × (t .taken ≡ takenOf (now (piece .entry)))
-        × Untouched (now (file .entry)) (r .desk) (now (file .exit)) (t .reader .desk) ⌝ }
+    requires { ⌜ Kept (now words) × (len ≤ 33) × (length (now held) ≡ 33) × (at + 26 ≤ length (now out)) ⌝ }
+    ensures { λ t. ⌜ Gives (firstGiven (readingOf (now (words .entry)) (now (held .entry)) len) (now (piece .entry))) (now (words .entry)) (now (out .entry)) at (t .end) (now (out .exit)) (now (words .exit)) (now (held .exit)) (t .len)
+        × (t .taken ≡ takenOf (now (piece .entry))) ⌝ }
 {
     let newline = pieces::newline_at(piece);
     if piece.len() <= newline {
-        let reader = grow(held, r, piece);
+        let all = grow(held, len, piece);
         return Took {
-            reader,
+            len: all,
             end: at,
             taken: newline,
         };
     }
-    let told = end_line(file, held, r, &piece[0..newline], out, at);
-    let desk = told.desk;
-    let reader = Reader { desk, len: 0 };
+    let end = end_line(words, held, len, &piece[0..newline], out, at);
     Took {
-        reader,
-        end: told.end,
+        len: 0,
+        end,
         taken: newline + 1,
     }
 }
 
 // Every complete line of a piece is answered, each line's reader handing the rest onward; the answers are written from at on.
 pub fn feed(
-    file: &mut [u8; 128],
+    words: &mut [u64; 28],
     held: &mut [u8; 33],
-    reader: Reader,
+    len: usize,
     piece: &[u8],
     out: &mut [u8],
     at: usize,
 ) -> Fed
-    requires { ⌜ (reader .len ≤ 33) × (length (now held) ≡ 33) × (at + 20 * length (now piece) + 6 ≤ length (now out)) ⌝ }
-    ensures { λ f. ⌜ Gives (given (readingOf (now (file .entry)) (now (held .entry)) reader) (now (piece .entry))) (now (out .entry)) at (f .end) (now (out .exit)) (now (file .exit)) (now (held .exit)) (f .reader) × (f .end ≤ length (now (out .exit)))
-        × Untouched (now (file .entry)) (reader .desk) (now (file .exit)) (f .reader .desk) ⌝ }
+    requires { ⌜ Kept (now words) × (len ≤ 33) × (length (now held) ≡ 33) × (at + 20 * length (now piece) + 6 ≤ length (now out)) ⌝ }
+    ensures { λ f. ⌜ Gives (given (readingOf (now (words .entry)) (now (held .entry)) len) (now (piece .entry))) (now (words .entry)) (now (out .entry)) at (f .end) (now (out .exit)) (now (words .exit)) (now (held .exit)) (f .len)
+        × (f .end ≤ length (now (out .exit))) ⌝ }
 {
     let mut rest = piece;
-    let mut r = reader;
+    let mut count = len;
     let mut end = at;
     while 0 < rest.len() {
-        let took = first_line(file, held, r, rest, out, end);
-        let next = took.reader;
+        let took = first_line(words, held, count, rest, out, end);
         let taken = took.taken;
-        r = next;
+        count = took.len;
         end = took.end;
         rest = &rest[taken..];
     }
-    Fed { reader: r, end }
+    Fed { len: count, end }
 }
 
-// No device yet, and no line.
-pub fn start() -> Reader
-    ensures { λ r. ⌜ ((file held : List ℕ) → readingOf file held r ≡ opened) × (r .len ≡ 0) ⌝ }
+// Words before a log: no device yet.
+pub fn start() -> [u64; 28]
+    ensures { λ w. ⌜ ((held : List ℕ) → readingOf w held 0 ≡ opened) × Kept w ⌝ }
 {
-    let sets = Sets {
-        level: 0,
-        reference: 0,
-        held: 0,
-        edge: 0,
-    };
-    let rest = Rest {
-        sets,
-        pointer: 0,
-        bus: 0,
-        choice: 0,
-    };
-    let desk = Desk { has: false, rest };
-    Reader { desk, len: 0 }
+    let mut words = [0u64; 28];
+    words[words::PART] = tracing::NO_PART;
+    words
 }
 
 // Puts the header into out from at on, and says where it ends.
@@ -170,17 +140,14 @@ pub fn put_header(out: &mut [u8], at: usize) -> usize
     text::put(out, at, b"answer\tint\tlow\thigh\n")
 }
 
-// The end of the log: a last line without newline is answered if it holds a byte. Says what is on the desk then, and where the answer ends.
-pub fn finish(file: &mut [u8; 128], held: &[u8], r: Reader, out: &mut [u8], at: usize) -> Told
-    requires { ⌜ (r .len ≤ length (now held)) × (at + 26 ≤ length (now out)) ⌝ }
-    ensures { λ t. ⌜ Ends (readingOf (now (file .entry)) (now (held .entry)) r) (now (out .entry)) at (t .end) (now (out .exit)) (now (file .exit)) (t .desk)
-        × Untouched (now (file .entry)) (r .desk) (now (file .exit)) (t .desk) ⌝ }
+// The end of the log: a last line without newline is answered if it holds a byte. Says where the answer ends.
+pub fn finish(words: &mut [u64; 28], held: &[u8], len: usize, out: &mut [u8], at: usize) -> usize
+    requires { ⌜ Kept (now words) × (len ≤ length (now held)) × (at + 26 ≤ length (now out)) ⌝ }
+    ensures { λ end. ⌜ Ends (readingOf (now (words .entry)) (now (held .entry)) len) (now (words .entry)) (now (out .entry)) at end (now (out .exit)) (now (words .exit)) ⌝ }
 {
-    let desk = r.desk;
-    let len = r.len;
     let line = &held[0..len];
     if line.len() == 0 {
-        return Told { desk, end: at };
+        return at;
     }
-    tracing::answer_line(file, desk, line, out, at)
+    tracing::answer_line(words, line, out, at)
 }

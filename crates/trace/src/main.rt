@@ -11,9 +11,9 @@ fn write_header() {
 fn main() {
     let mut piece = [0u8; 16384];
     let mut out = [0u8; 327_686];
-    let mut file = [0u8; 128];
+    let mut words = logs::start();
     let mut held = [0u8; 33];
-    let mut reader = logs::start();
+    let mut len = 0;
     write_header();
     let mut turns = u64::MAX;
     while 0 < turns {
@@ -21,15 +21,13 @@ fn main() {
         let got = libc::read(0, &mut piece);
         let n = io::count(got, &piece);
         if n == 0 {
-            let told = logs::finish(&mut file, &held, reader, &mut out, 0);
-            let end = told.end;
+            let end = logs::finish(&mut words, &held, len, &mut out, 0);
             io::write_all(STDOUT_FILENO, &out[0..end]);
             return;
         }
-        let fed = logs::feed(&mut file, &mut held, reader, &piece[0..n], &mut out, 0);
-        let next = fed.reader;
+        let fed = logs::feed(&mut words, &mut held, len, &piece[0..n], &mut out, 0);
         let end = fed.end;
-        reader = next;
+        len = fed.len;
         io::write_all(STDOUT_FILENO, &out[0..end]);
     }
 }

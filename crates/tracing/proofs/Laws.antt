@@ -1,47 +1,55 @@
 -- What the code's cases say of a line. Assumes nothing.
-use mathlib.Core.Path.{_≡_, refl, sym, ap, _∙_}
+use mathlib.Core.Path.{_≡_, refl, ap, _∙_}
 use mathlib.Core.Bool.{Bool, true, false, cond}
 use mathlib.Core.List.{List}
 use Prim.Native.Nat.{ℕ, _≤_}
-use lib.ListN.{length}
-use Rattle.map.specs.Map.{part24}
+use borrow.Author.Tests.{eq-eqb, ne-eqb}
+use lib.Dec.{eqb}
+use lib.ListN.{length, getD}
 use Rattle.bits.proofs.Decide.{clash}
+use Rattle.map.specs.Map.{part24}
 use Rattle.bus.specs.Device.{State, Outcome, out}
-use Rattle.bus.specs.Held.{stateOf}
+use Rattle.bus.specs.declared.Answer.{Answer}
 use Rattle.bus.specs.declared.Answer.the-variants.{Nothing, Refused}
 use Rattle.refusals.specs.Refusals.{stepped}
 use Rattle.refusals.specs.PowerOn.{powerOn}
+use Rattle.word_bus.specs.Packed.{stateIn, Packed}
+use Rattle.text.specs.Text.{Wrote}
+use Rattle.text.proofs.Laws.{wrote-as}
 use Rattle.lines.specs.declared.Line.{Line}
 use Rattle.lines.specs.declared.Line.the-variants.{Event, Unreadable, Device as MadeLine}
 use Rattle.lines.specs.Lines.{lineOf}
-use Rattle.answers.specs.Answers.{answerLine}
+use Rattle.answers.specs.Answers.{answerLine, shownLine, refusedLine}
 use Rattle.answers.proofs.Laws.{line-short, told-short}
-use Rattle.tracing.specs.declared.Desk.{Desk}
 use Rattle.tracing.specs.Tracing.Session.{NoDevice, With}
-use Rattle.tracing.specs.Tracing.{Session, Traced, sessionOf, told, unreadable, traced, Says, Untouched}
+use Rattle.tracing.specs.Tracing.{Session, Traced, sessionOf, told, unreadable, traced, Kept, Says}
 
 -- what is said may be said in another way
-pub says-as : {t u : Traced} {out : List ℕ} {at end : ℕ} {left file : List ℕ} {d : Desk} → t ≡ u → Says t out at end left file d → Says u out at end left file d
+pub says-as : {t u : Traced} {words₀ out : List ℕ} {at end : ℕ} {left words : List ℕ} → t ≡ u → Says t words₀ out at end left words → Says u words₀ out at end left words
 says-as e s = rw e at s
 
--- where a line leaves a device, there is one
-pub with-device : {t : Traced} {s : State} {out : List ℕ} {at end : ℕ} {left file : List ℕ} {d : Desk} → t .after ≡ With s → Says t out at end left file d
-    → {file₀ : List ℕ} {d₀ : Desk} → Untouched file₀ d₀ file d
-with-device {t} {s} {out} {at} {end} {left} {file} {d} e y none =
-    clash false (ap hasOne (ap (λ (b : Bool). cond b (With (stateOf file (d .rest))) NoDevice) (sym none) ∙ y .goes-on ∙ e)) refl
-  where
-    hasOne : Session → Bool
-    hasOne NoDevice = false
-    hasOne (With s) = true
+-- a line of a device that is as it is after it
+pub told-said : (words₀ words : List ℕ) (a : Answer) {o : Outcome} {out₀ : List ℕ} {at end : ℕ} {left : List ℕ} → Packed 0 words → out a (stateIn part24 words) ≡ o
+    → Wrote out₀ at (shownLine (out a (stateIn part24 words))) end left → Says (told o) words₀ out₀ at end left words
+told-said words₀ words a k e w = record {
+  says = wrote-as (ap shownLine e) w;
+  goes-on = ap (λ (b : Bool). cond b (With (stateIn part24 words)) NoDevice) (eq-eqb (getD words 27 0) 0 (k .part-is)) ∙ ap (λ (o : Outcome). With (o .after)) e;
+  kept = λ h. k;
+  untouched = λ h. clash (eqb (getD words 27 0) 0) (eq-eqb (getD words 27 0) 0 (k .part-is)) h;
+}
 
-module _ (file : List ℕ) (d : Desk) (kind arg : ℕ) where
-  pub event-told : (o : Outcome) → d .has ≡ true → o ≡ stepped part24 (stateOf file (d .rest)) kind arg → told o ≡ traced (sessionOf file d) (Event kind arg)
-  unfolding traced
-  event-told o h e = rw (h, e)
+-- refusal 7
+pub refused-said : (words : List ℕ) {out₀ : List ℕ} {at end : ℕ} {left : List ℕ} → Kept words → Wrote out₀ at (refusedLine 7) end left → Says (unreadable (sessionOf words)) words out₀ at end left words
+refused-said words k w = record { says = w; goes-on = refl; kept = k; untouched = λ h. refl }
 
-  pub event-refused : d .has ≡ false → unreadable (sessionOf file d) ≡ traced (sessionOf file d) (Event kind arg)
+module _ (words : List ℕ) (kind arg : ℕ) where
+  pub event-told : getD words 27 0 ≡ 0 → told (stepped part24 (stateIn part24 words) kind arg) ≡ traced (sessionOf words) (Event kind arg)
   unfolding traced
-  event-refused h = rw h
+  event-told h = rw (eq-eqb (getD words 27 0) 0 h)
+
+  pub event-refused : (getD words 27 0 ≡ 0 → ⊥) → unreadable (sessionOf words) ≡ traced (sessionOf words) (Event kind arg)
+  unfolding traced
+  event-refused h = rw (ne-eqb (getD words 27 0) 0 h)
 
 module _ (x : Session) (said : Line) (line : List ℕ) (read : said ≡ lineOf line) where
   pub device-told : {choice levels : ℕ} → said ≡ MadeLine choice levels → told (out Nothing (powerOn part24 choice levels)) ≡ traced x (lineOf line)

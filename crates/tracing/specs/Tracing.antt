@@ -1,27 +1,29 @@
 -- One line in, one line out.
 use mathlib.Core.Path.{_≡_}
-use mathlib.Core.Bool.{false, cond}
+use mathlib.Core.Bool.{true, false, cond}
 use mathlib.Core.List.{List}
 use Prim.Native.Nat.{ℕ}
+use lib.Dec.{eqb}
+use lib.ListN.{getD}
 use Rattle.map.specs.Map.{part24}
 use Rattle.bus.specs.Device.{State, Outcome, out}
 use Rattle.bus.specs.declared.Answer.the-variants.{Nothing}
 use Rattle.refusals.specs.Refusals.{stepped}
-use Rattle.bus.specs.Held.{stateOf}
 use Rattle.refusals.specs.PowerOn.{powerOn}
+use Rattle.word_bus.specs.Packed.{partWord, stateIn, Packed}
 use Rattle.text.specs.Text.{Wrote}
 use Rattle.lines.specs.declared.Line.{Line}
 use Rattle.lines.specs.declared.Line.the-variants.{Device, Event, Unreadable}
 use Rattle.answers.specs.Answers.{shownLine, refusedLine}
-use Rattle.tracing.specs.declared.Desk.{Desk}
 
 -- no device yet, or one in this state
 pub data Session : Type 0 where
   NoDevice : Session
   With : State → Session
 
-abbrev pub sessionOf : (file : List ℕ) → Desk → Session
-sessionOf file d = cond (d .has) (With (stateOf file (d .rest))) NoDevice
+-- what the words hold: a device, once a line has made one; before that they name no part
+abbrev pub sessionOf : (words : List ℕ) → Session
+sessionOf w = cond (eqb (getD w partWord 0) 0) (With (stateIn part24 w)) NoDevice
 
 -- the line that answers, and what there is after it
 pub record Traced : Type 0 where
@@ -42,11 +44,13 @@ traced x (Device choice levels) = told (out Nothing (powerOn part24 choice level
 traced NoDevice (Event kind arg) = unreadable NoDevice
 traced (With s) (Event kind arg) = told (stepped part24 s kind arg)
 
--- the line written from at on, and the register file and the desk after
-pub record Says (t : Traced) (out : List ℕ) (at end : ℕ) (left file : List ℕ) (d : Desk) : Type 0 where
-  pub says : Wrote out at (t .line) end left
-  pub goes-on : sessionOf file d ≡ t .after
+-- a device that the words hold is well formed: nothing of refusal 3 is left to test
+abbrev pub Kept : (words : List ℕ) → Type 0
+Kept w = eqb (getD w partWord 0) 0 ≡ true → Packed 0 w
 
--- where there is no device after a line, the register file and the desk are as they were
-abbrev pub Untouched : (file₀ : List ℕ) → (d₀ : Desk) → (file : List ℕ) → (d : Desk) → Type 0
-Untouched file₀ d₀ file d = d .has ≡ false → (file ≡ file₀) × (d ≡ d₀)
+-- the line written from at on, and what the words hold after it; where there is still no device, they are as they were
+pub record Says (t : Traced) (words₀ : List ℕ) (out : List ℕ) (at end : ℕ) (left words : List ℕ) : Type 0 where
+  pub says : Wrote out at (t .line) end left
+  pub goes-on : sessionOf words ≡ t .after
+  pub kept : Kept words
+  pub untouched : eqb (getD words partWord 0) 0 ≡ false → words ≡ words₀

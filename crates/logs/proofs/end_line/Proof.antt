@@ -13,9 +13,9 @@ same-length c = search needs
 returns : tie.Need-returns
 returns c =
     let p = c .before .before in
-    let t = p .before .before .before .before in
-    let x = t .before .before .before .before .args in
-    (says-as (line-whole (x .file .now) (x .held .now) (x .r) (t .if1 .taken) (x .part .now)) (p .answer-line .ensures .0), t .before .before .before .before .pre .1, p .answer-line .ensures .1)
+    let t = p .before .before .before in
+    let s = t .before .before .before in
+    (says-as (line-whole (s .args .words .now) (s .args .held .now) (s .args .len) (t .if1 .taken) (s .args .part .now)) (p .answer-line .ensures), s .pre .2)
 
 joined-line-requires : tie.Need-joined-line-requires
 joined-line-requires c κs = search needs

@@ -1,39 +1,35 @@
 use borrow.Author.Needs.{needs}
 use native.Mathlib.Omega.{arith}
-use mathlib.Core.Path.{_≡_, refl}
-use Prim.Native.Nat.{_≤_}
 use lib.ListN.{length}
-use Rattle.tracing.specs.Tracing.{Untouched}
 use Rattle.logs.specs.Pieces.{readingOf}
-use Rattle.logs.proofs.Feeding.{untouched-then, Onward, onward-start, onward-line, onward-done, taken-some, taken-less}
+use Rattle.logs.proofs.Feeding.{Onward, onward-start, onward-line, onward-done, taken-some, taken-less}
 use Rattle.logs.proofs.feed.Statement.{statement}
 use Rattle.logs.proofs.feed.Tie as tie
 
 abbrev Inv-loop : tie.InvT-loop
-Inv-loop file₀ held₀ piece out₀ at rest₀ r₀ end₀ file held out rest r end =
-    Onward (readingOf file₀ held₀ r₀) piece out₀ at out rest (readingOf file held r) end × (r .len ≤ 33) × (length held ≡ 33) × Untouched file₀ (r₀ .desk) file (r .desk)
+Inv-loop words₀ held₀ len piece out₀ at rest₀ count₀ end₀ words held out rest count end = Onward (readingOf words₀ held₀ len) words₀ piece out₀ at out rest words held count end
 
 abbrev μ-loop : tie.MeasureT-loop
-μ-loop file₀ held₀ piece out₀ at rest₀ r₀ end₀ file held out rest r end = length rest
+μ-loop words₀ held₀ len piece out₀ at rest₀ count₀ end₀ words held out rest count end = length rest
 
 loop-holds : tie.Need-loop-holds Inv-loop μ-loop
 loop-holds c =
     let s = c .before .before in
-    (onward-start (s .args .file .now) (s .args .held .now) (s .args .reader) (s .pre .0) (s .pre .2), s .pre .0, s .pre .1, λ none. (refl, refl))
+    onward-start (s .args .words .now) (s .args .held .now) (s .args .len) (s .pre .1) (s .pre .2) (s .pre .0) (s .pre .3)
 
 first-line-requires : tie.Need-first-line-requires Inv-loop μ-loop
 first-line-requires c κs =
     let here = c .before .before .before .before .loop .inv in
-    (here .1, here .2, omega (arith, here .0 .room, c .before .before .before .loop-test .taken))
+    (here .kept, here .small, here .whole, omega (arith, here .room, c .before .before .before .loop-test .taken))
 
 sub-rest : tie.Need-sub-rest Inv-loop μ-loop
 sub-rest c =
-    let f = c .before .before .before in
+    let f = c .before .before in
     omega (arith, f .first-line .ensures .1, taken-some (f .before .before .before .before .before .loop .rest .now) (f .before .before .before .before .loop-test .taken))
 
 part-rest-start : tie.Need-part-rest-start Inv-loop μ-loop
 part-rest-start c =
-    let f = c .before .before .before in
+    let f = c .before .before in
     omega (arith, f .first-line .ensures .1, taken-some (f .before .before .before .before .before .loop .rest .now) (f .before .before .before .before .loop-test .taken))
 
 part-rest-end : tie.Need-part-rest-end Inv-loop μ-loop
@@ -41,18 +37,14 @@ part-rest-end c = search needs
 
 loop-less : tie.Need-loop-less Inv-loop μ-loop
 loop-less c =
-    let f = c .before .before .before .before in
+    let f = c .before .before .before in
     taken-less _ _ (f .before .before .before .before .loop-test .taken) (f .first-line .ensures .1)
 
 loop-again : tie.Need-loop-again Inv-loop μ-loop
 loop-again c =
-    let f = c .before .before .before .before in
-    let i = f .before .before .before .before in (
-      onward-line (i .before .loop .inv .0) (i .loop-test .taken) (f .first-line .ensures .0) (f .first-line .ensures .1),
-      f .first-line .ensures .0 .small,
-      f .first-line .ensures .0 .whole,
-      untouched-then (i .before .loop .inv .3) (f .first-line .ensures .2),
-    )
+    let f = c .before .before .before in
+    let i = f .before .before .before .before in
+    onward-line (i .before .loop .inv) (i .loop-test .taken) (f .first-line .ensures .0) (f .first-line .ensures .1)
 
 same-length : tie.Need-same-length Inv-loop μ-loop
 same-length c = search needs
@@ -60,7 +52,7 @@ same-length c = search needs
 returns : tie.Need-returns Inv-loop μ-loop
 returns c =
     let here = c .before .loop .inv in
-    (onward-done (here .0) (c .loop-test .left) refl (here .1) (here .2), omega (arith, here .0 .room), here .3)
+    (onward-done here (c .loop-test .left), omega (arith, here .room))
 
 pub feed-spec : {M : Type 1} → statement M
 feed-spec = tie.close (tie.spec Inv-loop μ-loop loop-holds first-line-requires sub-rest part-rest-start part-rest-end loop-less loop-again same-length returns)

@@ -1,5 +1,4 @@
 use borrow.Author.Needs.{needs}
-use mathlib.Core.Path.{refl}
 use Rattle.logs.proofs.Feeding.{last-none, last-line}
 use Rattle.logs.proofs.finish.Statement.{statement}
 use Rattle.logs.proofs.finish.Tie as tie
@@ -15,8 +14,8 @@ part-line-end c = search needs
 
 returns : tie.Need-returns
 returns c =
-    let s = c .before .before .before .before .before in
-    (last-none (s .args .file .now) (s .args .held .now) (s .args .r) (c .if1 .taken) _ _ (s .pre .1), λ none. (refl, refl))
+    let s = c .before .before .before .before in
+    last-none (s .args .words .now) (s .args .held .now) (s .args .len) (c .if1 .taken) _ _ (s .pre .0) (s .pre .2)
 
 answer-line-requires : tie.Need-answer-line-requires
 answer-line-requires c κs = search needs
@@ -28,8 +27,8 @@ returns-2 : tie.Need-returns-2
 returns-2 c =
     let p = c .before .before in
     let e = p .before .before .before in
-    let s = e .before .before .before .before .before in
-    (last-line (s .args .file .now) (s .args .held .now) (s .args .r) (e .if1 .left) (s .pre .1) (p .answer-line .ensures .0), p .answer-line .ensures .1)
+    let s = e .before .before .before .before in
+    last-line (s .args .words .now) (s .args .held .now) (s .args .len) (e .if1 .left) (s .pre .2) (p .answer-line .ensures)
 
 pub finish-spec : {M : Type 1} → statement M
 finish-spec = tie.close (tie.spec sub-line part-line-start part-line-end returns answer-line-requires same-length returns-2)

@@ -1,5 +1,4 @@
 use borrow.Author.Needs.{needs}
-use mathlib.Core.Path.{refl}
 use Rattle.logs.proofs.Feeding.{none-gives, line-gives}
 use Rattle.logs.proofs.first_line.Statement.{statement}
 use Rattle.logs.proofs.first_line.Tie as tie
@@ -14,9 +13,8 @@ returns : tie.Need-returns
 returns c =
     let t = c .before .before in
     let n = t .before in
-    let x = n .before .before .before .args in
-    let g = none-gives _ _ _ (n .newline-at .ensures .0) (t .if1 .taken) (n .newline-at .ensures .1) _ _ (c .grow .ensures .0 (x .file .now)) (c .grow .ensures .2) (c .grow .ensures .1) in
-    (g .0, g .1, λ none. (refl, c .grow .ensures .3))
+    let s = n .before .before .before in
+    none-gives _ _ _ (n .newline-at .ensures .0) (t .if1 .taken) (n .newline-at .ensures .1) _ _ (s .pre .0) (c .grow .ensures .0 (s .args .words .now)) (c .grow .ensures .2) (c .grow .ensures .1)
 
 sub-end-line : tie.Need-sub-end-line
 sub-end-line c = search needs
@@ -30,18 +28,14 @@ part-end-line-end c = search needs
 end-line-requires : tie.Need-end-line-requires
 end-line-requires c κs = search needs
 
-add-t12 : tie.Need-add-t12
-add-t12 c = search needs
-
 same-length : tie.Need-same-length
 same-length c = search needs
 
 returns-2 : tie.Need-returns-2
 returns-2 c =
-    let p = c .before .before .before in
+    let p = c .before .before in
     let e = p .before .before .before .before .before in
-    let g = line-gives _ _ _ (e .before .newline-at .ensures .0) (e .if1 .left) (p .end-line .ensures .0) (p .end-line .ensures .1) in
-    (g .0, g .1, p .end-line .ensures .2)
+    line-gives _ _ _ (e .before .newline-at .ensures .0) (e .if1 .left) (p .end-line .ensures .0) (p .end-line .ensures .1)
 
 pub first-line-spec : {M : Type 1} → statement M
-first-line-spec = tie.close (tie.spec newline-at-requires grow-requires returns sub-end-line part-end-line-start part-end-line-end end-line-requires add-t12 same-length returns-2)
+first-line-spec = tie.close (tie.spec newline-at-requires grow-requires returns sub-end-line part-end-line-start part-end-line-end end-line-requires (λ c. search needs) same-length returns-2)

@@ -1,5 +1,5 @@
 use borrow.Author.Needs.{needs}
-use mathlib.Core.Path.{_≡_, refl, ap, _∙_}
+use mathlib.Core.Path.{_≡_, ap, _∙_}
 use mathlib.Core.List.{List}
 use Prim.Native.Nat.{ℕ}
 use lib.ListN.{length}
@@ -13,14 +13,11 @@ keep-requires c κs = search needs
 
 returns : tie.Need-returns
 returns c =
-    let s = c .before .before .before .before in
+    let k = c .keep in
+    let s = c .before .before .before in
     let all : length (s .args .held .now) ≡ 33 = search needs in
-    let kept = kept-most 33 all (c .keep .ensures) in (
-      λ file. ap (λ (x : List ℕ). record { session = sessionOf file (s .args .r .desk); begun = x }) (kept .0),
-      c .keep .ensures .long ∙ all,
-      kept .1,
-      refl,
-    )
+    let kept = kept-most 33 all (k .ensures) in
+    (λ words. ap (λ (x : List ℕ). record { session = sessionOf words; begun = x }) (kept .0), k .ensures .long ∙ all, kept .1)
 
 pub grow-spec : {M : Type 1} → statement M
 grow-spec = tie.close (tie.spec keep-requires returns)

@@ -1,5 +1,4 @@
 use borrow.Author.Needs.{needs}
-use mathlib.Core.Path.{_∙_}
 use Rattle.tracing.proofs.Laws.{says-as}
 use Rattle.logs.proofs.Feeding.{line-joined}
 use native.Mathlib.Omega.{arith}
@@ -17,7 +16,7 @@ part-answer-line-start c = search needs
 
 part-answer-line-end : tie.Need-part-answer-line-end
 part-answer-line-end c =
-    let g = c .before .before .before .before .grow .ensures in
+    let g = c .before .before .before .grow .ensures in
     omega (arith, g .1, g .2)
 
 answer-line-requires : tie.Need-answer-line-requires
@@ -29,9 +28,9 @@ same-length c = search needs
 returns : tie.Need-returns
 returns c =
     let p = c .before .before in
-    let g = p .before .before .before .before .before .before .before in
+    let g = p .before .before .before .before .before .before in
     let x = g .before .before .before .before .args in
-    (says-as (line-joined (x .file .now) (x .held .now) (x .r) (g .grow .result) _ (x .part .now) (g .grow .ensures .0 (x .file .now))) (p .answer-line .ensures .0), g .grow .ensures .1, λ none. (p .answer-line .ensures .1 none .0, p .answer-line .ensures .1 none .1 ∙ g .grow .ensures .3))
+    (says-as (line-joined (x .words .now) (x .held .now) (x .len) (g .grow .result) _ (x .part .now) (g .grow .ensures .0 (x .words .now))) (p .answer-line .ensures), g .grow .ensures .1)
 
 pub joined-line-spec : {M : Type 1} → statement M
 joined-line-spec = tie.close (tie.spec grow-requires sub-answer-line part-answer-line-start part-answer-line-end answer-line-requires same-length returns)

@@ -3,15 +3,16 @@ use mathlib.Core.Path.{_≡_}
 use Prim.Native.Nat.{ℕ, _≤_}
 use native.Mathlib.Omega.{arith}
 use lib.ListN.{length, length-replicate}
+use Rattle.tracing.specs.Tracing.{Kept}
 use Rattle.trace.proofs.main.Statement.{statement}
 use Rattle.trace.proofs.main.Tie as tie
 
 abbrev Inv-loop : tie.InvT-loop
-Inv-loop piece₀ out₀ file₀ held₀ reader₀ turns₀ piece out file held reader turns =
-    (length piece ≡ 16384) × (length out ≡ 327686) × (reader .len ≤ 33) × (length held ≡ 33)
+Inv-loop piece₀ out₀ words₀ held₀ len₀ turns₀ piece out words held len turns =
+    (length piece ≡ 16384) × (length out ≡ 327686) × (len ≤ 33) × (length held ≡ 33) × Kept words
 
 abbrev μ-loop : tie.MeasureT-loop
-μ-loop piece₀ out₀ file₀ held₀ reader₀ turns₀ piece out file held reader turns = turns
+μ-loop piece₀ out₀ words₀ held₀ len₀ turns₀ piece out words held len turns = turns
 
 start-requires : tie.Need-start-requires Inv-loop μ-loop
 start-requires c κs = search needs
@@ -20,9 +21,7 @@ write-header-requires : tie.Need-write-header-requires Inv-loop μ-loop
 write-header-requires c κs = search needs
 
 loop-holds : tie.Need-loop-holds Inv-loop μ-loop
-loop-holds c =
-    let none = c .before .start .ensures .1 in
-    (length-replicate {A = ℕ} 16384 0, length-replicate {A = ℕ} 327686 0, omega (arith, none), length-replicate {A = ℕ} 33 0)
+loop-holds c = (length-replicate {A = ℕ} 16384 0, length-replicate {A = ℕ} 327686 0, omega arith, length-replicate {A = ℕ} 33 0, c .before .start .ensures .1)
 
 sub-turns : tie.Need-sub-turns Inv-loop μ-loop
 sub-turns c = search needs

@@ -1,6 +1,8 @@
 use borrow.Author.Needs.{needs}
-use mathlib.Core.Path.{refl}
-use Rattle.tracing.proofs.Laws.{says-as, with-device, device-told, event-said, unreadable-said}
+use native.Mathlib.Omega.{arith}
+use mathlib.Core.Path.{sym, _∙_}
+use Rattle.lines.proofs.Laws.{line-means}
+use Rattle.tracing.proofs.Laws.{says-as, refused-said, device-told, event-said, unreadable-said}
 use Rattle.tracing.proofs.answer_line.Statement.{statement}
 use Rattle.tracing.proofs.answer_line.Tie as tie
 
@@ -11,7 +13,11 @@ enum-known-said : tie.Need-enum-known-said
 enum-known-said c = search needs
 
 make-requires : tie.Need-make-requires
-make-requires c κs = search needs
+make-requires c κs =
+    let s = c .before .before .before in
+    let r = s .before .before in
+    let m = line-means _ .makes _ _ (sym (r .read .ensures) ∙ s .said .given .1) in
+    (omega (arith, m), omega (arith, m), search needs)
 
 enum-known-said-2 : tie.Need-enum-known-said-2
 enum-known-said-2 c = search needs
@@ -32,7 +38,7 @@ returns : tie.Need-returns
 returns c =
     let p = c .before .before in
     let s = p .before .before .before .before in
-    (says-as (device-told _ _ _ (s .before .before .read .ensures) (s .said .given .1)) (p .make .ensures), with-device refl (p .make .ensures))
+    says-as (device-told _ _ _ (s .before .before .read .ensures) (s .said .given .1)) (p .make .ensures)
 
 same-length-2 : tie.Need-same-length-2
 same-length-2 c = search needs
@@ -41,7 +47,7 @@ returns-2 : tie.Need-returns-2
 returns-2 c =
     let p = c .before .before in
     let s = p .before .before .before .before in
-    (says-as (event-said _ _ _ (s .before .before .read .ensures) (s .said2 .given .1)) (p .event .ensures .0), p .event .ensures .1)
+    says-as (event-said _ _ _ (s .before .before .read .ensures) (s .said2 .given .1)) (p .event .ensures)
 
 same-length-3 : tie.Need-same-length-3
 same-length-3 c = search needs
@@ -51,7 +57,8 @@ returns-3 c =
     let p = c .before .before in
     let s = p .before .before in
     let r = s .before .before in
-    (says-as (unreadable-said _ _ _ (r .read .ensures) (s .enum-told .given .1)) (p .refuse .ensures .0 (r .before .before .before .args .file .now)), λ h. (refl, p .refuse .ensures .1))
+    let x = r .before .before .before in
+    says-as (unreadable-said _ _ _ (r .read .ensures) (s .enum-told .given .1)) (refused-said _ (x .pre .0) (p .refuse .ensures))
 
 pub answer-line-spec : {M : Type 1} → statement M
 answer-line-spec = tie.close (tie.spec read-requires enum-known-said make-requires enum-known-said-2 event-requires enum-told refuse-requires same-length returns same-length-2 returns-2 same-length-3 returns-3)

@@ -1,11 +1,11 @@
 use borrow.Author.Needs.{needs}
-use mathlib.Core.Path.{refl}
-use Rattle.tracing.proofs.Laws.{says-as, with-device, event-told, event-refused}
+use borrow.Author.Tests.{eq-eqb}
+use Rattle.tracing.proofs.Laws.{says-as, told-said, refused-said, event-told, event-refused}
 use Rattle.tracing.proofs.event.Statement.{statement}
 use Rattle.tracing.proofs.event.Tie as tie
 
-step-requires : tie.Need-step-requires
-step-requires c κs = search needs
+event-requires : tie.Need-event-requires
+event-requires c κs = let t = c .before in t .before .before .before .pre .0 (eq-eqb _ _ (t .if1 .taken))
 
 tell-requires : tie.Need-tell-requires
 tell-requires c κs = search needs
@@ -16,10 +16,10 @@ same-length c = search needs
 returns : tie.Need-returns
 returns c =
     let p = c .before .before in
-    let s = p .before .before .before .before in
-    let has = s .before .before .before in
-    let x = has .before .before .args in
-    (says-as (event-told (x .file .now) (x .desk) (x .kind) (x .arg) _ (has .if1 .taken) (s .step .ensures)) (p .tell .ensures), with-device refl (p .tell .ensures))
+    let e = p .before .before .before in
+    let t = e .before .before in
+    let x = t .before .before .before .args in
+    says-as (event-told (x .words .now) (x .kind) (x .arg) (t .if1 .taken)) (told-said _ _ (e .event .result) (e .event .ensures .packed) (e .event .ensures .outcome) (p .tell .ensures))
 
 refuse-requires : tie.Need-refuse-requires
 refuse-requires c κs = search needs
@@ -30,9 +30,9 @@ same-length-2 c = search needs
 returns-2 : tie.Need-returns-2
 returns-2 c =
     let p = c .before .before in
-    let none = p .before .before in
-    let x = none .before .before .args in
-    (says-as (event-refused (x .file .now) (x .desk) (x .kind) (x .arg) (none .if1 .left)) (p .refuse .ensures .0 (x .file .now)), λ h. (refl, p .refuse .ensures .1))
+    let n = p .before .before in
+    let s = n .before .before .before in
+    says-as (event-refused (s .args .words .now) (s .args .kind) (s .args .arg) (n .if1 .left)) (refused-said _ (s .pre .0) (p .refuse .ensures))
 
 pub event-spec : {M : Type 1} → statement M
-event-spec = tie.close (tie.spec step-requires tell-requires same-length returns refuse-requires same-length-2 returns-2)
+event-spec = tie.close (tie.spec (λ c. search needs) event-requires tell-requires same-length returns refuse-requires same-length-2 returns-2)

@@ -1,5 +1,4 @@
 use borrow.Author.Needs.{needs}
-use mathlib.Core.Path.{refl}
 use Rattle.answers.specs.Answers.{answerLine}
 use Rattle.tracing.proofs.refuse.Statement.{statement}
 use Rattle.tracing.proofs.refuse.Tie as tie
@@ -12,7 +11,7 @@ same-length c = search needs
 
 returns : tie.Need-returns
 unfolding answerLine
-returns c = (λ file. record { says = c .before .before .put-line .ensures; goes-on = refl }, refl)
+returns c = c .before .before .put-line .ensures
 
 pub refuse-spec : {M : Type 1} → statement M
 refuse-spec = tie.close (tie.spec put-line-requires same-length returns)

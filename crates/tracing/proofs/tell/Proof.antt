@@ -1,7 +1,8 @@
 use borrow.Author.Needs.{needs}
 use mathlib.Core.Path.{refl}
 use Rattle.text.proofs.Laws.{wrote-as}
-use Rattle.bus.specs.Held.{stateOf}
+use Rattle.map.specs.Map.{part24}
+use Rattle.word_bus.specs.Packed.{stateIn}
 use Rattle.answers.proofs.Laws.{told-line}
 use Rattle.tracing.proofs.tell.Statement.{statement}
 use Rattle.tracing.proofs.tell.Tie as tie
@@ -25,14 +26,11 @@ returns : tie.Need-returns
 returns c =
     let p = c .before .before in
     let h = p .before .before in
-    let x = h .before .before .before .before .args in
-    record {
-      says =
-          wrote-as
-          (told-line (x .answer) (stateOf (x .file .now) (x .rest)) _ _ _ (h .before .before .int .ensures) (h .before .low .ensures (x .rest .sets)) (h .high .ensures (x .rest .sets)))
-          (p .put-line .ensures);
-      goes-on = refl;
-    }
+    let s = h .before .before .before .before in
+    let k = s .pre .0 .fit in
+    wrote-as
+    (told-line (s .args .answer) (stateIn part24 (s .args .words .now)) _ _ _ (h .before .before .int .ensures 0 k) (h .before .low .ensures 0 refl) (h .high .ensures 0 k))
+    (p .put-line .ensures)
 
 pub tell-spec : {M : Type 1} → statement M
 tell-spec = tie.close (tie.spec int-requires low-requires high-requires put-line-requires same-length returns)

@@ -1,0 +1,57 @@
+use borrow.Author.Needs.{needs}
+use mathlib.Core.Path.{refl, sym, ap}
+use Prim.Native.Nat.{ℕ}
+use native.Mathlib.Omega.{arith}
+use Rattle.map.specs.Map.{part24}
+use Rattle.refusals.specs.Refusals.{stepped}
+use Rattle.word_bus.specs.Packed.{stateIn}
+use Rattle.word_bus.proofs.Left.{by-rule}
+use Rattle.word_bus.proofs.Judging.{bounded-of, row-there, row-inside}
+use Rattle.word_device.proofs.Answering.{answered}
+use Rattle.word_device.proofs.event.Statement.{statement}
+use Rattle.word_device.proofs.event.Tie as tie
+
+returns : tie.Need-returns
+returns c =
+    let d = c .before in
+    let which = d .before .before .before .before in
+    let s = which .before .before in
+    let yes = which .is-command .ensures .0 (d .before .before .before .if1 .taken) in
+    answered (c .answer .ensures)
+    (by-rule (d .command .ensures 0 (s .pre) (yes .1) (d .before .before .row24 .ensures)) (ap (λ (n : ℕ). stepped part24 (stateIn part24 (s .args .words .now)) n (s .args .arg)) (sym (yes .0))))
+
+event-requires : tie.Need-event-requires
+event-requires c κs =
+    let r = c .before in
+    let which = r .before .before .before in
+    let s = which .before .before in
+    let b = bounded-of 0 (s .args .words .now) (s .pre) in
+    (row-inside 0 (omega arith) (s .args .words .now) b _ (r .row242 .ensures), b .choice-small)
+
+returns-2 : tie.Need-returns-2
+returns-2 c =
+    let d = c .before in
+    let r = d .before .before in
+    let else = r .before .before in
+    let which = else .before in
+    let s = which .before .before in
+    let b = bounded-of 0 (s .args .words .now) (s .pre) in
+    answered (c .answer2 .ensures)
+    (d .event .ensures 0 (s .pre) refl (row-there 0 (omega arith) (s .args .words .now) b _ (r .row242 .ensures)) (which .is-command .ensures .1 (else .if1 .left)))
+
+pub event-spec : {M : Type 1} → statement M
+event-spec =
+    tie.close
+    (tie.spec
+    (λ c κs. search needs)
+    (λ c. search needs)
+    (λ c κs. search needs)
+    (λ c κs. search needs)
+    (λ c κs. search needs)
+    returns
+    (λ c. search needs)
+    (λ c. search needs)
+    (λ c κs. search needs)
+    event-requires
+    (λ c κs. search needs)
+    returns-2)

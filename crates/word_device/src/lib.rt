@@ -1,0 +1,83 @@
+// The 24-pin device on words that are lent: made, and stepped where they are known to be packed.
+ghost use mathlib.Core.Path.{_≡_};
+ghost use mathlib.Core.Bool.{true};
+ghost use Prim.Native.Nat.{_^_, _<_};
+ghost use Rattle.map.specs.Map.{part24};
+ghost use Rattle.refusals.specs.Refusals.{stepped};
+ghost use Rattle.refusals.specs.PowerOn.{powerOn};
+ghost use Rattle.word_bus.specs.Packed.{stateIn, Packed, Leaves};
+use bus::Answer;
+use words::POINTER;
+
+// Every pin of the part, and the bits of its output port kind and its debounce registers.
+pub const PINS: u64 = 0xff_ffff;
+
+const KINDS: u64 = 0x7;
+
+const ENABLES: u64 = 0xffff;
+
+const COUNTS: u64 = 0xff;
+
+// A device at power-on.
+pub fn power_on(words: &mut [u64; 28], choice: u8, levels: u64)
+    requires { ⌜ (choice < 4) × (levels < 2 ^ 24) ⌝ }
+    ensures { λ r. ⌜ Packed 0 (now (words .exit)) × (stateIn part24 (now (words .exit)) ≡ powerOn part24 choice levels) ⌝ }
+{
+    let own = choice as u64;
+    *words = [
+        levels,
+        levels,
+        0,
+        0,
+        PINS,
+        0,
+        PINS,
+        0,
+        0,
+        0,
+        PINS,
+        0,
+        0,
+        PINS,
+        PINS,
+        0,
+        PINS,
+        0,
+        0,
+        0,
+        0,
+        0,
+        0,
+        own,
+        0,
+        0,
+        0,
+        0,
+    ];
+}
+
+// Whether the words are the packing of a well-formed image.
+pub fn fits(words: &[u64; 28]) -> bool
+    ensures { λ r. ⌜ (r ≡ true → Packed 0 (now (words .entry))) × (Packed 0 (now (words .entry)) → r ≡ true) ⌝ }
+{
+    if !word_bus::bounded(words, PINS, KINDS, ENABLES, COUNTS, 0) {
+        return false;
+    }
+    if rows::row24((words[POINTER] % 128) as u8) == 0 {
+        return false;
+    }
+    true
+}
+
+// One event on words that are: nothing of refusal 3 is left to test.
+pub fn event(words: &mut [u64; 28], kind: u32, arg: u64) -> Answer
+    requires { ⌜ Packed 0 (now words) ⌝ }
+    ensures { λ a. ⌜ Leaves 0 (now (words .exit)) a (stepped part24 (stateIn part24 (now (words .entry))) kind arg) ⌝ }
+{
+    if word_bus::is_command(&*words, kind) {
+        let wanted = rows::row24((arg % 128) as u8);
+        return word_bus::answer(word_bus::command(words, wanted, arg));
+    }
+    let row = rows::row24((words[POINTER] % 128) as u8);
+    word_bus::answer(word_bus::event(words, PINS, row, kind, arg))
+}
