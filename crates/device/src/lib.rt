@@ -89,10 +89,16 @@ impl Device {
         Made { refusal, device }
     }
 
-    // One event.
+    // One event: the image is packed, the words are stepped, and what they hold then is unpacked.
     pub fn step(self, kind: u32, arg: u64) -> Stepped
         ensures { λ s. ⌜ out (s .answer) (stateIn (s .device)) ≡ stepped part24 (stateIn self) kind arg ⌝ }
     {
+        if !self.fits() {
+            return Stepped {
+                answer: Answer::Refused(3),
+                device: self,
+            };
+        }
         let mut file = self.file;
         let sets = self.sets;
         let rest = Rest {
@@ -101,9 +107,10 @@ impl Device {
             bus: self.bus,
             choice: self.choice,
         };
-        let o = stepping::step(&mut file, rest, kind, arg);
-        let answer = o.answer;
-        let after = o.rest;
+        let mut words = [0u64; 28];
+        word_images::pack(&mut words, 0, &file, rest);
+        let answer = word_device::event(&mut words, kind, arg);
+        let after = word_images::unpack(&words, &mut file);
         let sets = after.sets;
         let device = Device {
             file,
