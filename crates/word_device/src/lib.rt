@@ -1,11 +1,14 @@
 // The 24-pin device on words that are lent: made, and stepped where they are known to be packed.
 ghost use mathlib.Core.Path.{_≡_};
 ghost use mathlib.Core.Bool.{true};
-ghost use Prim.Native.Nat.{_^_, _<_};
+ghost use Prim.Native.Nat.{ℕ, _%_, _^_, _<_};
+ghost use lib.ListN.{getD};
 ghost use Rattle.map.specs.Map.{part24};
 ghost use Rattle.refusals.specs.Refusals.{stepped};
 ghost use Rattle.refusals.specs.PowerOn.{powerOn};
-ghost use Rattle.word_bus.specs.Packed.{stateIn, Packed, Leaves};
+ghost use Rattle.words.specs.Words.{partOf};
+ghost use Rattle.rows.specs.Rows.{rowAt};
+ghost use Rattle.word_bus.specs.Packed.{stateIn, Packed, Leaves, Limits};
 use bus::Answer;
 use words::POINTER;
 
@@ -56,17 +59,38 @@ pub fn power_on(words: &mut [u64; 28], choice: u8, levels: u64)
     ];
 }
 
-// Whether the words are the packing of a well-formed image.
-pub fn fits(words: &[u64; 28]) -> bool
-    ensures { λ r. ⌜ (r ≡ true → Packed 0 (now (words .entry))) × (Packed 0 (now (words .entry)) → r ≡ true) ⌝ }
+// Whether the words are the packing of a well-formed image of a part with these limits, the row of the register at the pointer given.
+fn packed(
+    words: &[u64; 28],
+    pins: u64,
+    kinds: u64,
+    enables: u64,
+    counts: u64,
+    part: u64,
+    row: u32,
+) -> bool
+    ensures { λ r. ⌜ ((c : ℕ) → c < 2 → Limits c pins kinds enables counts → part ≡ c → row ≡ rowAt (partOf c) (getD (now (words .entry)) 21 0 % 128)
+        → (r ≡ true → Packed c (now (words .entry))) × (Packed c (now (words .entry)) → r ≡ true)) ⌝ }
 {
-    if !word_bus::bounded(words, PINS, KINDS, ENABLES, COUNTS, 0) {
+    if !word_bus::bounded(words, pins, kinds, enables, counts, part) {
         return false;
     }
-    if rows::row24((words[POINTER] % 128) as u8) == 0 {
+    if row == 0 {
         return false;
     }
     true
+}
+
+// Whether the words are the packing of a well-formed image of the part.
+pub fn fits(words: &[u64; 28], part: u64) -> bool
+    ensures { λ r. ⌜ (r ≡ true → Packed part (now (words .entry))) × (Packed part (now (words .entry)) → r ≡ true) ⌝ }
+{
+    let n = (words[POINTER] % 128) as u8;
+    match part {
+        0 => packed(words, PINS, KINDS, ENABLES, COUNTS, 0, rows::row24(n)),
+        1 => packed(words, 0x3_ffff_ffff, 0x1f, 0xff_ffff, 0, 1, rows::row34(n)),
+        _ => false,
+    }
 }
 
 // One event on words that are: nothing of refusal 3 is left to test.

@@ -1,27 +1,31 @@
 -- Words made of an image are packed and hold its state; made of the image of packed words they are those words again. Assumes nothing.
-use mathlib.Core.Path.{_≡_, refl, ap, _∙_}
+use mathlib.Core.Path.{_≡_, refl, sym, ap, ap₂, subst, _∙_}
 use mathlib.Core.Bool.{Bool, true, false, not, _&&_}
 use mathlib.Core.List.{List}
-use Prim.Native.Nat.{ℕ, _^_, _<_}
+use Prim.Native.Nat.{ℕ, _%_, _^_, _<_}
+use native.Mathlib.Nat.{mod-eq-of-lt}
 use native.Mathlib.Omega.{arith}
-use borrow.Author.Tests.{ltb-true, not-true}
+use borrow.Author.Tests.{lt-ltb, ltb-true, not-true}
 use lib.Dec.{ltb}
 use lib.ListN.{getD, set}
 use lib.Seq.{getD-set-same, getD-set-other}
-use Rattle.bits.proofs.Decide.{and-left, and-right}
+use Rattle.bits.proofs.Decide.{clash, and-left, and-right}
 use Rattle.pins.specs.AllPins.{Within}
 use Rattle.pins.specs.declared.Sets.{Sets}
 use Rattle.map.specs.Map.{Part, reserved, fileFits}
-use Rattle.registers.specs.Registers.{core}
-use Rattle.bus.specs.Device.{State, state}
+use Rattle.registers.specs.Registers.{Core, core}
+use Rattle.bus.specs.Device.{State, state, out}
+use Rattle.bus.specs.Held.{stateOf}
+use Rattle.bus.specs.declared.Answer.{Answer}
 use Rattle.bus.proofs.Stepping.{same-state}
-use Rattle.refusals.specs.Refusals.{setsFit, imageFits}
-use Rattle.words.specs.Words.{partOf, fileOf, withSets, Fit, Holds}
+use Rattle.refusals.specs.Refusals.{setsFit, imageFits, stepped}
+use Rattle.words.specs.Words.{partOf, fileOf, setsIn, withSets, Fit, Holds}
 use Rattle.words.proofs.Sound.{sound}
-use Rattle.words.proofs.Holding.{holds-sets}
-use Rattle.word_bus.specs.Packed.{stateIn, Packed}
+use Rattle.words.proofs.Holding.{within, sets-there, holds-sets}
+use Rattle.word_bus.specs.Packed.{stateIn, Packed, Steps}
 use Rattle.word_bus.proofs.Left.{unused-case, core-past, fit-past}
-use Rattle.word_bus.proofs.Judging.{same-packed, image-fits}
+use Rattle.word_bus.proofs.Judging.{same-packed, image-fits, bounded-of}
+use Rattle.word_images.specs.Images.{Packs, restIn}
 
 -- what an image that fits is known to be
 pub record Fitting (p : Part) (s : State) : Type 0 where
@@ -129,9 +133,79 @@ module _ (c : ℕ) (hc : c < 2) (u : List ℕ) (fit : Fit (partOf c) u) (zeros :
     part-is = getD-set-same w3 27 c 0 (omega (arith, fit3 .full));
   }
 
--- packed words, taken out and packed again
-pub packed-again : (c : ℕ) (w w' : List ℕ) (s : State) → Packed c w → s ≡ stateIn (partOf c) w
-    → (imageFits (partOf c) s ≡ true → Packed c w' × (stateIn (partOf c) w' ≡ s)) → w' ≡ w
-packed-again c w w' s k e f =
-    let r = f (ap (imageFits (partOf c)) e ∙ image-fits c w k) in
-    same-packed c w' w (r .0) k (r .1 ∙ e)
+-- ---- words made of an image, judged
+module _ (c : ℕ) (u file : List ℕ) (fit : Fit (partOf c) u) (zeros : (s : ℕ) → 18 < s → getD u s 0 ≡ 0)
+    (taken : fileFits (partOf c) file ≡ true → fileOf (partOf c) u ≡ file) (x : Sets) (pointer bus choice : ℕ) where
+  abbrev image : State
+  image = state (core file x) pointer bus choice
+
+  abbrev made : List ℕ
+  made = set (set (set (set (withSets u x) 21 pointer) 22 bus) 23 choice) 27 c
+
+  would-fit : c < 2 → imageFits (partOf c) image ≡ true → Packed c made × (stateIn (partOf c) made ≡ image)
+  would-fit h e =
+      let f = fitting-of (partOf c) image e in (
+        packed-words c h u fit zeros x pointer bus choice (f .within) (f .pointer-known) (f .bus-small) (f .choice-small),
+        packed-state c h u fit zeros x pointer bus choice (f .within)
+            ∙ ap (λ (l : List ℕ). state (core l x) pointer bus choice) (taken (f .file-fits)),
+      )
+
+  not-judged : (c < 2 → imageFits (partOf c) image ≡ true → ⊥) → (w : List ℕ) → Packs c image false w w
+  not-judged z w = record { judged = go (ltb c 2) (imageFits (partOf c) image) refl refl; packed = λ h. clash false h refl; unchanged = λ h. refl }
+    where
+      go : (a b : Bool) → ltb c 2 ≡ a → imageFits (partOf c) image ≡ b → false ≡ (a && b)
+      go true true p q = absurd (z (ltb-true c 2 p) q)
+      go true false p q = refl
+      go false b p q = refl
+
+  pub no-such-file : (fileOf (partOf c) made ≡ file → ⊥) → (w : List ℕ) → Packs c image false w w
+  no-such-file z = not-judged (λ h e. z (ap (λ (s : State). s .regs .file) (would-fit h e .1)))
+
+  pub not-packed : (Packed c made → ⊥) → (w : List ℕ) → Packs c image false w w
+  not-packed z = not-judged (λ h e. z (would-fit h e .0))
+
+  pub judged-packed : Packed c made → fileOf (partOf c) made ≡ file → (w : List ℕ) → Packs c image true w made
+  judged-packed k e w = record {
+    judged = sym (ap₂ (λ (a b : Bool). a && b) (lt-ltb c 2 (k .known-part)) (ap (imageFits (partOf c)) (sym same) ∙ image-fits c made k));
+    packed = λ h. (k, same);
+    unchanged = λ h. clash true refl h;
+  }
+    where
+      sets : setsIn made ≡ x
+      sets =
+          ap (λ (r : Core). r .sets)
+          (core-past c _ 27 c (omega arith) ∙ core-past c _ 23 choice (omega arith) ∙ core-past c _ 22 bus (omega arith) ∙ core-past c (withSets u x) 21 pointer (omega arith))
+          ∙ sets-there u x (fit .full)
+
+      inside : Within (partOf c .width) x
+      inside = subst (Within (partOf c .width)) sets (within (partOf c) (sound c) made (k .fit))
+
+      held : stateIn (partOf c) made ≡ state (core (fileOf (partOf c) u) x) pointer bus choice
+      held = packed-state c (k .known-part) u fit zeros x pointer bus choice inside
+
+      same : stateIn (partOf c) made ≡ image
+      same = held ∙ ap (λ (l : List ℕ). state (core l x) pointer bus choice) (sym (ap (λ (s : State). s .regs .file) held) ∙ e)
+
+-- ---- and back
+small : (x m : ℕ) → x < m → m < 257 → x % 256 ≡ x
+small x m h l = mod-eq-of-lt (omega arith)
+
+-- what packed words are unpacked to is the image that they hold
+pub unpacked : (c : ℕ) (w : List ℕ) → Packed c w → stateOf (fileOf (partOf (getD w 27 0)) w) (restIn w) ≡ stateIn (partOf c) w
+unpacked c w k =
+    let b = bounded-of c w k in
+    same-state (ap (λ (p : ℕ). core (fileOf (partOf p) w) (setsIn w)) (k .part-is))
+    (small (getD w 21 0) 128 (b .pointer-small) (omega arith)) (small (getD w 22 0) 8 (b .bus-small) (omega arith)) (small (getD w 23 0) 4 (b .choice-small) (omega arith))
+
+-- the image of packed words, packed again, gives the same words
+pub packed-again : (c : ℕ) (w v w' : List ℕ) (fits : Bool) → Packed c w → Packs c (stateIn (partOf c) w) fits v w' → w' ≡ w
+packed-again c w v w' fits k p =
+    let r = p .packed (p .judged ∙ ap₂ (λ (a b : Bool). a && b) (lt-ltb c 2 (k .known-part)) (image-fits c w k)) in
+    same-packed c w' w (r .0) k (r .1)
+
+-- the step on an image's packing gives the answer of the step on the image, and leaves the words of the image that one leaves
+pub same-step : (c : ℕ) (image : State) (v w w' : List ℕ) (kind arg : ℕ) (answer : Answer) → Packs c image true v w → Steps c w w' kind arg answer
+    → (out answer (stateIn (partOf c) w') ≡ stepped (partOf c) image kind arg) × Packed c w'
+same-step c image v w w' kind arg answer p s =
+    let l = s .taken (p .packed refl .0) in
+    (l .outcome ∙ ap (λ (x : State). stepped (partOf c) x kind arg) (p .packed refl .1), l .packed)

@@ -1,15 +1,15 @@
 // The words out of an image, and an image out of them.
 ghost use mathlib.Core.Path.{_≡_};
 ghost use mathlib.Core.Bool.{true};
-ghost use mathlib.Core.List.{List};
 ghost use Prim.Native.Nat.{ℕ, _<_};
 ghost use lib.ListN.{length, getD};
 ghost use Rattle.map.specs.Map.{fileFits};
-ghost use Rattle.bus.specs.Held.{stateOf};
-ghost use Rattle.refusals.specs.Refusals.{imageFits};
+ghost use Rattle.registers.specs.Registers.{core};
+ghost use Rattle.bus.specs.Device.{state};
 ghost use Rattle.words.specs.Words.{partOf, fileOf, Fit};
-ghost use Rattle.word_bus.specs.Packed.{stateIn, Packed};
+ghost use Rattle.word_images.specs.Images.{Packs, restIn};
 use bus::Rest;
+use pins::Sets;
 use words::BUS;
 use words::CHOICE;
 use words::PART;
@@ -36,7 +36,7 @@ pub fn to_file(words: &[u64; 28], part: u64, file: &mut [u8; 128])
 }
 
 // The words that stand for a register file; every other word 0.
-pub fn from_file(words: &mut [u64; 28], part: u64, file: &[u8; 128])
+fn from_file(words: &mut [u64; 28], part: u64, file: &[u8; 128])
     ensures { λ r. ⌜ Fit (partOf part) (now (words .exit))
         × (fileFits (partOf part) (now (file .entry)) ≡ true → fileOf (partOf part) (now (words .exit)) ≡ now (file .entry))
         × ((s : ℕ) → 18 < s → getD (now (words .exit)) s 0 ≡ 0) ⌝ }
@@ -51,23 +51,54 @@ pub fn from_file(words: &mut [u64; 28], part: u64, file: &[u8; 128])
     }
 }
 
-// The words of an image of the part.
-pub fn pack(words: &mut [u64; 28], part: u64, file: &[u8; 128], r: Rest)
-    ensures { λ y. ⌜ (part < 2 → imageFits (partOf part) (stateOf (now (file .entry)) r) ≡ true
-        → Packed part (now (words .exit)) × (stateIn (partOf part) (now (words .exit)) ≡ stateOf (now (file .entry)) r)) ⌝ }
+// Whether the words stand for this register file.
+fn stand_for(words: &[u64; 28], part: u64, file: &[u8; 128]) -> bool
+    ensures { λ t. ⌜ (t ≡ true → fileOf (partOf part) (now (words .entry)) ≡ now (file .entry))
+        × (fileOf (partOf part) (now (words .entry)) ≡ now (file .entry) → t ≡ true) ⌝ }
 {
-    from_file(words, part, file);
-    let x = r.sets;
-    words::put_sets(words, x);
-    words[POINTER] = r.pointer as u64;
-    words[BUS] = r.bus as u64;
-    words[CHOICE] = r.choice as u64;
-    words[PART] = part;
+    let _count = counted(file);
+    let mut n: u8 = 0;
+    while n < 128 {
+        if word_views::entry(words, rows::row_of(part, n)) != file[n as usize] {
+            return false;
+        }
+        n += 1;
+    }
+    true
 }
 
-// The image that the words are the packing of: its register file, and the rest of it.
+// The words become those of an image of the part, if it fits.
+pub fn pack(
+    words: &mut [u64; 28],
+    part: u64,
+    file: &[u8; 128],
+    sets: Sets,
+    pointer: u64,
+    bus: u64,
+    choice: u64,
+) -> bool
+    ensures { λ fits. ⌜ Packs part (state (core (now (file .entry)) sets) pointer bus choice) fits (now (words .entry)) (now (words .exit)) ⌝ }
+{
+    let mut fresh = [0u64; 28];
+    from_file(&mut fresh, part, file);
+    words::put_sets(&mut fresh, sets);
+    fresh[POINTER] = pointer;
+    fresh[BUS] = bus;
+    fresh[CHOICE] = choice;
+    fresh[PART] = part;
+    if !stand_for(&fresh, part, file) {
+        return false;
+    }
+    if !word_device::fits(&fresh, part) {
+        return false;
+    }
+    *words = fresh;
+    true
+}
+
+// The image that the words hold: its register file, and the rest of it.
 pub fn unpack(words: &[u64; 28], file: &mut [u8; 128]) -> Rest
-    ensures { λ r. ⌜ ((c : ℕ) → Packed c (now (words .entry)) → stateOf (now (file .exit)) r ≡ stateIn (partOf c) (now (words .entry))) ⌝ }
+    ensures { λ r. ⌜ (now (file .exit) ≡ fileOf (partOf (getD (now (words .entry)) 27 0)) (now (words .entry))) × (r ≡ restIn (now (words .entry))) ⌝ }
 {
     let part = words[PART];
     to_file(words, part, file);

@@ -59,7 +59,7 @@ module _ (p : Part) (ok : Sound p) (w : List ℕ) (fit : Fit p w) where
   }
 
 -- ---- the pins stored
-sets-there : (w : List ℕ) (x : Sets) → length w ≡ 28 → setsIn (withSets w x) ≡ x
+pub sets-there : (w : List ℕ) (x : Sets) → length w ≡ 28 → setsIn (withSets w x) ≡ x
 sets-there [] x h = absurd (omega (arith, h))
 sets-there (a ∷ []) x h = absurd (omega (arith, h))
 sets-there (a ∷ b ∷ []) x h = absurd (omega (arith, h))

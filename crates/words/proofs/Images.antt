@@ -60,6 +60,20 @@ module _ (p : Part) (ok : Sound p) (w : List ℕ) where
           pick true q = e ∙ ap (entryOf p w) (sym (eqb-true j n q))
           pick false q = l .entry j (omega (arith, eqb-false j n q))
 
+  -- one entry more is found as it is
+  pub laid-next : (file : List ℕ) (n : ℕ) → Laid p w file n → n < 128 → entryOf p w n ≡ getD file n 0 → Laid p w file (n + 1)
+  laid-next file n l h e = record { inside = omega arith; full = l .full; entry = entry }
+    where
+      entry : (j : ℕ) → j < n + 1 → getD file j 0 ≡ entryOf p w j
+      entry j hj = pick (eqb j n) refl
+        where
+          pick : (b : Bool) → eqb j n ≡ b → getD file j 0 ≡ entryOf p w j
+          pick true q = let z : j ≡ n = eqb-true j n q in rw z (sym e)
+          pick false q = l .entry j (omega (arith, eqb-false j n q))
+
+  pub entry-same : (file : List ℕ) (n : ℕ) → n < 128 → fileOf p w ≡ file → entryOf p w n ≡ getD file n 0
+  entry-same file n h e = sym (file-entry p ok w n h) ∙ ap (λ (f : List ℕ). getD f n 0) e
+
   pub laid-all : (file : List ℕ) (n : ℕ) → Laid p w file n → 128 ≤ n → file ≡ fileOf p w
   laid-all file n l h =
       ext-getD 0 file (fileOf p w) (l .full ∙ sym (file-length p w))

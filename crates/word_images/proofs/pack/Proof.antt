@@ -1,30 +1,46 @@
--- `word_images::pack`: the file's words, the pins and the rest (`packed-words`, `packed-state`). Assumes nothing.
+-- `word_images::pack`: words are made of the file, the pins and the rest, and judged before they are kept. Assumes nothing.
 use borrow.Author.Needs.{needs}
-use mathlib.Core.Path.{ap, _∙_}
-use mathlib.Core.List.{List}
-use Prim.Native.Nat.{ℕ}
-use Rattle.registers.specs.Registers.{core}
-use Rattle.bus.specs.Device.{state}
-use Rattle.bus.specs.Held.{stateOf}
-use Rattle.words.specs.Words.{partOf}
-use Rattle.word_images.proofs.Packing.{fitting-of, packed-words, packed-state}
+use borrow.Author.Tests.{not-true, not-false}
+use Rattle.bits.proofs.Decide.{clash}
+use Rattle.word_images.proofs.Packing.{no-such-file, not-packed, judged-packed}
 use Rattle.word_images.proofs.pack.Statement.{statement}
 use Rattle.word_images.proofs.pack.Tie as tie
 
 returns : tie.Need-returns
 returns c =
-    let put = c .before .before .before in
-    let files = put .before .before .before in
-    let a = files .before .before .args in
-    let r = a .r in
-    let u = files .from-file .ensures in
-    λ h fits.
-    let f = fitting-of (partOf (a .part)) (stateOf (a .file .now) r) fits in
-    rw (put .put-sets .ensures) (
-      packed-words (a .part) h _ (u .0) (u .2) (r .sets) (r .pointer) (r .bus) (r .choice) (f .within) (f .pointer-known) (f .bus-small) (f .choice-small),
-      packed-state (a .part) h _ (u .0) (u .2) (r .sets) (r .pointer) (r .bus) (r .choice) (f .within)
-          ∙ ap (λ (l : List ℕ). state (core l (r .sets)) (r .pointer) (r .bus) (r .choice)) (u .1 (f .file-fits)),
-    )
+    let s = c .before in
+    let put = s .before .before in
+    let from = put .before .before in
+    let a = from .before .before .args in
+    let u = from .from-file .ensures in
+    let t = rw (put .put-sets .ensures) at (s .stand-for .ensures) in
+    no-such-file (a .part) _ (a .file .now) (u .0) (u .2) (u .1) (a .sets) (a .pointer) (a .bus) (a .choice) (λ h. clash _ (t .1 h) (not-true _ (c .if1 .taken))) (a .words .now)
+
+returns-2 : tie.Need-returns-2
+returns-2 c =
+    let f = c .before in
+    let put = f .before .before .before .before .before in
+    let from = put .before .before in
+    let a = from .before .before .args in
+    let u = from .from-file .ensures in
+    let t = rw (put .put-sets .ensures) at (f .fits2 .ensures) in
+    not-packed (a .part) _ (a .file .now) (u .0) (u .2) (u .1) (a .sets) (a .pointer) (a .bus) (a .choice) (λ k. clash _ (t .1 k) (not-true _ (c .if2 .taken))) (a .words .now)
+
+returns-3 : tie.Need-returns-3
+returns-3 c =
+    let f = c .before in
+    let else = f .before .before in
+    let s = else .before in
+    let put = s .before .before in
+    let from = put .before .before in
+    let a = from .before .before .args in
+    let u = from .from-file .ensures in
+    let e = put .put-sets .ensures in
+    let stands = rw e at (s .stand-for .ensures) in
+    let fits = rw e at (f .fits2 .ensures) in
+    rw e
+    (judged-packed (a .part) _ (a .file .now) (u .0) (u .2) (u .1) (a .sets) (a .pointer) (a .bus) (a .choice) (fits .0 (not-false _ (c .if2 .left)))
+    (stands .0 (not-false _ (else .if1 .left))) (a .words .now))
 
 pub pack-spec : {M : Type 1} → statement M
 pack-spec =
@@ -36,7 +52,8 @@ pack-spec =
     (λ c. search needs)
     (λ c. search needs)
     (λ c. search needs)
-    (λ c. search needs)
-    (λ c. search needs)
-    (λ c. search needs)
-    returns)
+    (λ c κs. search needs)
+    returns
+    (λ c κs. search needs)
+    returns-2
+    returns-3)

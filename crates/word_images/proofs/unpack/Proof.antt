@@ -1,30 +1,22 @@
 -- `word_images::unpack`: the file by `to_file`, the rest as it is. Assumes nothing.
 use borrow.Author.Needs.{needs}
-use mathlib.Core.Path.{_≡_, ap, _∙_}
-use Prim.Native.Nat.{ℕ, _%_, _<_}
-use native.Mathlib.Nat.{mod-eq-of-lt}
-use native.Mathlib.Omega.{arith}
+use mathlib.Core.Path.{ap}
+use mathlib.Core.List.{List}
+use Prim.Native.Nat.{ℕ, _%_}
 use lib.ListN.{getD}
-use Rattle.registers.proofs.Writing.{same}
-use Rattle.bus.proofs.Stepping.{same-state}
-use Rattle.words.specs.Words.{partOf, fileOf}
-use Rattle.word_bus.proofs.Judging.{bounded-of}
+use Rattle.pins.specs.declared.Sets.{Sets}
+use Rattle.bus.specs.declared.Rest.{Rest}
 use Rattle.word_images.proofs.unpack.Statement.{statement}
 use Rattle.word_images.proofs.unpack.Tie as tie
 
-small : (x m : ℕ) → x < m → m < 257 → x % 256 ≡ x
-small x m h l = mod-eq-of-lt (omega arith)
+abbrev beside : List ℕ → Sets → Rest
+beside w x = record { sets = x; pointer = getD w 21 0 % 256; bus = getD w 22 0 % 256; choice = getD w 23 0 % 256 }
 
 returns : tie.Need-returns
 returns c =
     let sets = c .before .before .before in
-    let a = sets .before .before .before .before .args in
-    let w = a .words .now in
-    λ k packed.
-    let b = bounded-of k w packed in
-    same-state
-    (same (sets .before .to-file .ensures ∙ ap (λ (p : ℕ). fileOf (partOf p) w) (packed .part-is)) (sets .sets-in .ensures))
-    (small (getD w 21 0) 128 (b .pointer-small) (omega arith)) (small (getD w 22 0) 8 (b .bus-small) (omega arith)) (small (getD w 23 0) 4 (b .choice-small) (omega arith))
+    let w = sets .before .before .before .before .args .words .now in
+    (sets .before .to-file .ensures, ap (beside w) (sets .sets-in .ensures))
 
 pub unpack-spec : {M : Type 1} → statement M
 unpack-spec =
