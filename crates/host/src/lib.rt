@@ -1,73 +1,57 @@
-// The C boundary: the state as three arrays of plain numbers that the caller owns, answers and refusals as numbers.
+// The C boundary: the state as words that the caller owns, an image as its arrays, answers and refusals as numbers.
 ghost use mathlib.Core.Path.{_≡_};
 ghost use mathlib.Core.Bool.{false};
 ghost use lib.Dec.{eqb};
 ghost use lib.ListN.{length};
-ghost use Rattle.map.specs.Map.{part24};
-ghost use Rattle.refusals.specs.Refusals.{stepped};
 ghost use Rattle.promises.specs.Answer.{answerOf, Answers};
 ghost use Rattle.promises.specs.Promise.{Promise};
-ghost use Rattle.arrays.specs.Arrays.{imageIn, Told, Made, Seen, Shown, drivesOf, intOf, plannedAs, countIn};
-
-// One event.
-#[no_mangle]
-pub extern "C" fn ghixramel_arrays_step(
-    pins: &mut [u64; 4],
-    file: &mut [u8; 128],
-    line: &mut [u8; 3],
-    kind: u32,
-    argument: u64,
-    told: &mut [u8; 2],
-) -> u32
-    ensures { λ r. ⌜ Told (stepped part24 (imageIn (now (pins .entry)) (now (file .entry)) (now (line .entry))) kind argument)
-        r (imageIn (now (pins .exit)) (now (file .exit)) (now (line .exit))) (now (told .entry)) (now (told .exit)) ⌝ }
-{
-    let rest = carrying::rest_in(&*pins, &*line);
-    let o = stepping::step(file, rest, kind, argument);
-    let answer = o.answer;
-    carrying::keep(o.rest, pins, line);
-    carrying::tell(answer, told)
-}
+ghost use Rattle.host_words.specs.Host.{Told, Made, Seen, Shown, drivesOf, intOf, imageIn, FromImage, ToImage, plannedAs, countIn};
+use pins::Sets;
+use words::BUS;
+use words::CHOICE;
+use words::EDGE;
+use words::HELD;
+use words::LEVEL;
+use words::POINTER;
+use words::REFERENCE;
 
 // A device at power-on.
 #[no_mangle]
-pub extern "C" fn ghixramel_arrays_power_on(
-    pins: &mut [u64; 4],
-    file: &mut [u8; 128],
-    line: &mut [u8; 3],
-    choice: u32,
-    levels: u64,
-) -> u32
-    ensures { λ r. ⌜ Made choice levels r (imageIn (now (pins .entry)) (now (file .entry)) (now (line .entry)))
-        (imageIn (now (pins .exit)) (now (file .exit)) (now (line .exit))) ⌝ }
+pub extern "C" fn ghixramel_power_on(words: &mut [u64; 28], choice: u32, levels: u64) -> u32
+    ensures { λ r. ⌜ Made choice levels r (now (words .entry)) (now (words .exit)) ⌝ }
 {
     if 3 < choice {
         return 2;
     }
-    if 0xff_ffff < levels {
+    if word_device::PINS < levels {
         return 2;
     }
-    *file = files::default_file();
-    *pins = [levels, levels, 0, 0];
-    *line = [0, 0, (choice % 4) as u8];
+    word_device::power_on(words, (choice % 4) as u8, levels);
     0
+}
+
+// One event.
+#[no_mangle]
+pub extern "C" fn ghixramel_step(
+    words: &mut [u64; 28],
+    kind: u32,
+    argument: u64,
+    told: &mut [u8; 2],
+) -> u32
+    ensures { λ r. ⌜ Told (now (words .entry)) kind argument r (now (words .exit)) (now (told .entry)) (now (told .exit)) ⌝ }
+{
+    let answer = word_bus::answer(word_bus::step24(words, kind, argument));
+    host_words::tell(answer, told)
 }
 
 // The pins driven low and high.
 #[no_mangle]
-pub extern "C" fn ghixramel_arrays_drives(
-    pins: &[u64; 4],
-    file: &[u8; 128],
-    line: &[u8; 3],
-    drives: &mut [u64; 2],
-) -> u32
-    ensures { λ r. ⌜ Seen (imageIn (now (pins .entry)) (now (file .entry)) (now (line .entry)))
-        (drivesOf (imageIn (now (pins .entry)) (now (file .entry)) (now (line .entry)))) r (now (drives .entry)) (now (drives .exit)) ⌝ }
+pub extern "C" fn ghixramel_drives(words: &[u64; 28], drives: &mut [u64; 2]) -> u32
+    ensures { λ r. ⌜ Seen (now (words .entry)) drivesOf r (now (drives .entry)) (now (drives .exit)) ⌝ }
 {
-    let rest = carrying::rest_in(pins, line);
-    if refusing::image_fits(file, rest) {
-        let low = views::low(file);
-        let high = views::high(file);
+    if word_device::fits(words, 0) {
+        let low = word_views::low(words, word_device::PINS);
+        let high = word_views::high(words);
         *drives = [low, high];
         return 0;
     }
@@ -76,18 +60,11 @@ pub extern "C" fn ghixramel_arrays_drives(
 
 // Whether INT is asserted.
 #[no_mangle]
-pub extern "C" fn ghixramel_arrays_int(
-    pins: &[u64; 4],
-    file: &[u8; 128],
-    line: &[u8; 3],
-    asserted: &mut [u8; 1],
-) -> u32
-    ensures { λ r. ⌜ Seen (imageIn (now (pins .entry)) (now (file .entry)) (now (line .entry)))
-        (intOf (imageIn (now (pins .entry)) (now (file .entry)) (now (line .entry)))) r (now (asserted .entry)) (now (asserted .exit)) ⌝ }
+pub extern "C" fn ghixramel_int(words: &[u64; 28], asserted: &mut [u8; 1]) -> u32
+    ensures { λ r. ⌜ Seen (now (words .entry)) intOf r (now (asserted .entry)) (now (asserted .exit)) ⌝ }
 {
-    let rest = carrying::rest_in(pins, line);
-    if refusing::image_fits(file, rest) {
-        *asserted = [carrying::one_if(views::int(file, rest.sets))];
+    if word_device::fits(words, 0) {
+        *asserted = [host_words::one_if(word_views::int(words))];
         return 0;
     }
     3
@@ -95,27 +72,62 @@ pub extern "C" fn ghixramel_arrays_int(
 
 // The byte that a fetch of register n would show.
 #[no_mangle]
-pub extern "C" fn ghixramel_arrays_show(
-    pins: &[u64; 4],
-    file: &[u8; 128],
-    line: &[u8; 3],
-    number: u32,
-    byte: &mut [u8; 1],
-) -> u32
-    ensures { λ r. ⌜ Shown (imageIn (now (pins .entry)) (now (file .entry)) (now (line .entry))) number r (now (byte .entry)) (now (byte .exit)) ⌝ }
+pub extern "C" fn ghixramel_show(words: &[u64; 28], number: u32, byte: &mut [u8; 1]) -> u32
+    ensures { λ r. ⌜ Shown (now (words .entry)) number r (now (byte .entry)) (now (byte .exit)) ⌝ }
 {
-    let rest = carrying::rest_in(pins, line);
-    if !refusing::image_fits(file, rest) {
+    if !word_device::fits(words, 0) {
         return 3;
     }
     if 127 < number {
         return 2;
     }
-    let n = (number % 128) as u8;
-    if lookup::is_reserved(n) {
+    let row = rows::row24((number % 128) as u8);
+    if row == 0 {
         return 2;
     }
-    *byte = [fetches::show(file, rest.sets, n)];
+    *byte = [word_views::show(words, row)];
+    0
+}
+
+// The words of an image.
+#[no_mangle]
+pub extern "C" fn ghixramel_pack(
+    words: &mut [u64; 28],
+    pins: &[u64; 4],
+    file: &[u8; 128],
+    bus: &[u64; 3],
+) -> u32
+    ensures { λ r. ⌜ FromImage (imageIn (now (pins .entry)) (now (file .entry)) (now (bus .entry))) r (now (words .entry)) (now (words .exit)) ⌝ }
+{
+    let sets = Sets {
+        level: pins[0],
+        reference: pins[1],
+        held: pins[2],
+        edge: pins[3],
+    };
+    if word_images::pack(words, 0, file, sets, bus[0], bus[1], bus[2]) {
+        return 0;
+    }
+    3
+}
+
+// The image of words.
+#[no_mangle]
+pub extern "C" fn ghixramel_unpack(
+    words: &[u64; 28],
+    pins: &mut [u64; 4],
+    file: &mut [u8; 128],
+    bus: &mut [u64; 3],
+) -> u32
+    ensures { λ r. ⌜ ToImage (now (words .entry)) r (now (pins .entry)) (now (file .entry)) (now (bus .entry))
+        (now (pins .exit)) (now (file .exit)) (now (bus .exit)) ⌝ }
+{
+    if !word_device::fits(words, 0) {
+        return 3;
+    }
+    word_images::to_file(words, 0, file);
+    *pins = [words[LEVEL], words[REFERENCE], words[HELD], words[EDGE]];
+    *bus = [words[POINTER], words[BUS], words[CHOICE]];
     0
 }
 
@@ -133,5 +145,5 @@ pub extern "C" fn ghixramel_plan(
     ensures refused { λ r. ⌜ (eqb r 0 ≡ false → now (writes .exit) ≡ now (writes .entry)) ⌝ }
 {
     let planned = planner::plan(start, goal, buffer);
-    carrying::tell_plan(planned, writes)
+    host_words::tell_plan(planned, writes)
 }

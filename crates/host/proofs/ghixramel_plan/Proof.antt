@@ -1,5 +1,5 @@
 use borrow.Author.Needs.{needs}
-use Rattle.arrays.proofs.Laws.{plan-told}
+use Rattle.host_words.proofs.Laws.{plan-told}
 use Rattle.host.proofs.ghixramel_plan.Statement.{statement}
 use Rattle.host.proofs.ghixramel_plan.Tie as tie
 

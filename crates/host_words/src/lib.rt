@@ -1,47 +1,16 @@
-// The state out of its arrays and back into them, and answers as numbers.
+// Answers as a C host has them: as numbers.
 ghost use mathlib.Core.Path.{_≡_};
 ghost use mathlib.Core.Bool.{cond};
-ghost use mathlib.Core.List.{[], _∷_};
-ghost use lib.Dec.{eqb};
-ghost use Rattle.bus.specs.Answers.{answerKind, answerByte, refusalNumber};
+ghost use Rattle.bus.specs.Answers.{refusalNumber};
 ghost use Rattle.promises.specs.Promise.{refusalOf};
-ghost use Rattle.arrays.specs.Arrays.{restIn, writesAfter};
+ghost use Rattle.host_words.specs.Host.{toldAs, writesAfter};
 use bus::Answer;
-use bus::Rest;
-use pins::Sets;
 use promises::Planned;
-
-// The state beside the register file, out of its arrays.
-pub fn rest_in(pins: &[u64; 4], line: &[u8; 3]) -> Rest
-    ensures { λ r. ⌜ r ≡ restIn (now (pins .entry)) (now (line .entry)) ⌝ }
-{
-    let sets = Sets {
-        level: pins[0],
-        reference: pins[1],
-        held: pins[2],
-        edge: pins[3],
-    };
-    Rest {
-        sets,
-        pointer: line[0],
-        bus: line[1],
-        choice: line[2],
-    }
-}
-
-// And back into them.
-pub fn keep(r: Rest, pins: &mut [u64; 4], line: &mut [u8; 3])
-    ensures { λ u. ⌜ restIn (now (pins .exit)) (now (line .exit)) ≡ r ⌝ }
-{
-    let sets = r.sets;
-    *pins = [sets.level, sets.reference, sets.held, sets.edge];
-    *line = [r.pointer, r.bus, r.choice];
-}
 
 // An answer as its kind and its byte; a refusal as its number alone.
 pub fn tell(answer: Answer, told: &mut [u8; 2]) -> u32
     ensures { λ r. ⌜ (r ≡ refusalNumber answer)
-        × (now (told .exit) ≡ cond (eqb (answerKind answer) 4) (now (told .entry)) (answerKind answer ∷ answerByte answer ∷ [])) ⌝ }
+        × (now (told .exit) ≡ toldAs answer (now (told .entry))) ⌝ }
 {
     match answer {
         Answer::Nothing => {

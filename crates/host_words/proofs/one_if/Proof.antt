@@ -1,6 +1,6 @@
 use mathlib.Core.Path.{refl}
-use Rattle.carrying.proofs.one_if.Statement.{statement}
-use Rattle.carrying.proofs.one_if.Tie as tie
+use Rattle.host_words.proofs.one_if.Statement.{statement}
+use Rattle.host_words.proofs.one_if.Tie as tie
 
 returns : tie.Need-returns
 returns c = rw (c .if1 .taken) refl

@@ -1,7 +1,7 @@
 use borrow.Author.Needs.{needs}
 use mathlib.Core.Path.{refl}
-use Rattle.carrying.proofs.tell.Statement.{statement}
-use Rattle.carrying.proofs.tell.Tie as tie
+use Rattle.host_words.proofs.tell.Statement.{statement}
+use Rattle.host_words.proofs.tell.Tie as tie
 
 enum-told : tie.Need-enum-told
 enum-told c = search needs

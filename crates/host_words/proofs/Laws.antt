@@ -1,0 +1,156 @@
+-- What a call leaves is what the inner functions leave. Assumes nothing.
+use mathlib.Core.Path.{_≡_, refl, sym, ap, ap₂, subst, _∙_}
+use mathlib.Core.Bool.{Bool, true, false, cond, _&&_}
+use mathlib.Core.List.{List, [], _∷_}
+use Prim.Native.Nat.{ℕ, _<_}
+use borrow.Author.Tests.{le-ltb}
+use lib.Dec.{eqb, ltb}
+use lib.ListN.{length, getD}
+use Rattle.bits.proofs.Decide.{clash}
+use Rattle.map.specs.Map.{part24, reserved}
+use Rattle.registers.specs.Registers.{core, shown}
+use Rattle.bus.specs.Device.{State, Outcome, state}
+use Rattle.bus.specs.Answers.{refusalNumber}
+use Rattle.bus.specs.declared.Answer.{Answer}
+use Rattle.bus.specs.declared.Answer.the-variants.{Nothing, Ack, Nak, Byte, Refused}
+use Rattle.refusals.specs.Refusals.{imageFits}
+use Rattle.refusals.specs.PowerOn.{powerOn, makingRefused}
+use Rattle.quiet.specs.Settings.{shape24, Write}
+use Rattle.quiet.specs.Order.{blocked}
+use Rattle.quiet.specs.Route.{planOf}
+use Rattle.promises.specs.Formed.{formed}
+use Rattle.promises.specs.Answer.{answerOf, Answers}
+use Rattle.promises.specs.Answer.Answer.{refuse, give}
+use Rattle.promises.specs.Promise.{refusalOf, countOf, Promise}
+use Rattle.promises.specs.declared.Planned.{Planned}
+use Rattle.words.specs.Words.{fileOf, setsIn}
+use Rattle.word_bus.specs.Packed.{stateIn, Packed, Steps}
+use Rattle.word_images.specs.Images.{Packs}
+use Rattle.host_words.specs.Host.{toldAs, Told, Made, Seen, Shown, imageIn, FromImage, ToImage, writesAfter, plannedAs, countIn}
+
+-- ---- one event
+module _ (w w' told told' : List ℕ) (kind arg number : ℕ) where
+  abbrev Same : Type 0
+  Same = (w' ≡ w) × (told' ≡ told)
+
+  unchanged : (a : Answer) → Steps 0 w w' kind arg a → number ≡ refusalNumber a → told' ≡ toldAs a told → eqb number 0 ≡ false → Same
+  unchanged Nothing s n t h = clash (eqb number 0) (ap (λ (k : ℕ). eqb k 0) n) h
+  unchanged Ack s n t h = clash (eqb number 0) (ap (λ (k : ℕ). eqb k 0) n) h
+  unchanged Nak s n t h = clash (eqb number 0) (ap (λ (k : ℕ). eqb k 0) n) h
+  unchanged (Byte b) s n t h = clash (eqb number 0) (ap (λ (k : ℕ). eqb k 0) n) h
+  unchanged (Refused m) s n t h = (s .refused m refl, t)
+
+  -- a step on words, told in numbers
+  pub told-of : (a : Answer) → Steps 0 w w' kind arg a → number ≡ refusalNumber a → told' ≡ toldAs a told → Told w kind arg number w' told told'
+  told-of a s n t = record {
+    taken = λ k.
+        let l = s .taken k in
+        record {
+          refused = n ∙ ap (λ (o : Outcome). refusalNumber (o .answer)) (l .outcome);
+          packed = l .packed;
+          after = ap (λ (o : Outcome). o .after) (l .outcome);
+          answer = t ∙ ap (λ (o : Outcome). toldAs (o .answer) told) (l .outcome);
+        };
+    broken = λ z. n ∙ ap refusalNumber (s .broken z);
+    unchanged = unchanged a s n t;
+  }
+
+-- ---- a device that is made, or not
+pub made : (choice levels : ℕ) (w w' : List ℕ) → 0 ≡ makingRefused part24 choice levels → Packed 0 w' × (stateIn part24 w' ≡ powerOn part24 choice levels)
+    → Made choice levels 0 w w'
+made choice levels w w' e q =
+    record { refused = e; made = λ h. q; unchanged = λ h. clash (eqb (makingRefused part24 choice levels) 0) (ap (λ (n : ℕ). eqb n 0) (sym e)) h }
+
+pub not-made : (choice levels : ℕ) (w : List ℕ) → 2 ≡ makingRefused part24 choice levels → Made choice levels 2 w w
+not-made choice levels w e =
+    record { refused = e; made = λ h. clash true refl (ap (λ (n : ℕ). eqb n 2) (e ∙ h)); unchanged = λ h. refl }
+
+-- ---- what can be seen
+module _ (w : List ℕ) (value : State → List ℕ) (lent : List ℕ) where
+  pub seen : (lent' : List ℕ) → Packed 0 w → lent' ≡ value (stateIn part24 w) → Seen w value 0 lent lent'
+  seen lent' k e = record { seen = λ k. (refl, e); broken = λ z. absurd (z k) }
+
+  pub unseen : (Packed 0 w → ⊥) → Seen w value 3 lent lent
+  unseen z = record { seen = λ k. absurd (z k); broken = λ z. (refl, refl) }
+
+pub int-told : {t b : Bool} {n : ℕ} → n ≡ cond t 1 0 → t ≡ b → n ∷ [] ≡ cond b 1 0 ∷ []
+int-told n t = ap (λ (n : ℕ). n ∷ []) n ∙ ap (λ (t : Bool). cond {A = ℕ} t 1 0 ∷ []) t
+
+pub both-told : {l m h k : ℕ} → l ≡ m → h ≡ k → l ∷ h ∷ [] ≡ m ∷ k ∷ []
+both-told = ap₂ (λ (l h : ℕ). l ∷ h ∷ [])
+
+module _ (w : List ℕ) (n : ℕ) (lent : List ℕ) where
+  pub shown-here : (lent' : List ℕ) → Packed 0 w → reserved part24 n ≡ false → lent' ≡ shown part24 (stateIn part24 w .regs) n ∷ [] → Shown w n 0 lent lent'
+  shown-here lent' k e q = record { seen = λ k. (simp e, q ∙ simp e); broken = λ z. absurd (z k) }
+
+  pub no-register : Packed 0 w → reserved part24 n ≡ true → Shown w n 2 lent lent
+  no-register k e = record { seen = λ k. (simp e, simp e); broken = λ z. absurd (z k) }
+
+  pub not-shown : (Packed 0 w → ⊥) → Shown w n 3 lent lent
+  not-shown z = record { seen = λ k. absurd (z k); broken = λ z. (refl, refl) }
+
+pub above : (n : ℕ) → 127 < n → reserved part24 n ≡ true
+unfolding reserved
+above n h = simp (le-ltb n 128 h)
+
+-- ---- images
+pub from-image : (image : State) (w w' : List ℕ) → Packs 0 image true w w' → FromImage image 0 w w'
+from-image image w w' p = record { packed = λ h. (refl, p .packed refl .0, p .packed refl .1); broken = λ h. clash (imageFits part24 image) (sym (p .judged)) h }
+
+pub from-none : (image : State) (w w' : List ℕ) → Packs 0 image false w w' → FromImage image 3 w w'
+from-none image w w' p = record { packed = λ h. clash (imageFits part24 image) h (sym (p .judged)); broken = λ h. (refl, p .unchanged refl) }
+
+module _ (w pins file bus : List ℕ) where
+  pub to-image : (file' : List ℕ) → Packed 0 w → file' ≡ fileOf part24 w
+      → ToImage w 0 pins file bus (getD w 0 0 ∷ getD w 1 0 ∷ getD w 2 0 ∷ getD w 3 0 ∷ []) file' (getD w 21 0 ∷ getD w 22 0 ∷ getD w 23 0 ∷ [])
+  to-image file' k e = record {
+    unpacked = λ k. (refl, ap (λ (f : List ℕ). state (core f (setsIn w)) (getD w 21 0) (getD w 22 0) (getD w 23 0)) e);
+    broken = λ z. absurd (z k);
+  }
+
+  pub to-none : (Packed 0 w → ⊥) → ToImage w 3 pins file bus pins file bus
+  to-none z = record { unpacked = λ k. absurd (z k); broken = λ z. (refl, refl, refl, refl) }
+
+-- ---- plans
+-- no refusal of the planner has the number 0
+abbrev isRefusal : Planned → Bool
+isRefusal (Planned.Writes n) = false
+isRefusal (Planned.Refused n) = true
+
+not-zero : (fit small stuck : Bool) (ws : List Write) (n : ℕ) (before after : List ℕ)
+    → Answers (Planned.Refused n) before after (cond fit (cond small (refuse 6) (cond stuck (refuse 4) (give ws))) (refuse 5)) → eqb n 0 ≡ false
+not-zero false small stuck ws n before after q = ap (λ (p : Planned). eqb (refusalOf p) 0) (q .0)
+not-zero true true stuck ws n before after q = ap (λ (p : Planned). eqb (refusalOf p) 0) (q .0)
+not-zero true false true ws n before after q = ap (λ (p : Planned). eqb (refusalOf p) 0) (q .0)
+not-zero true false false ws n before after q = clash true refl (ap isRefusal (q .0))
+
+module _ (start goal before after : List ℕ) where
+  abbrev Said : Planned → Type 0
+  Said p = Answers p before after (answerOf start goal (length before))
+
+  refusal-not-zero : (n : ℕ) → Said (Planned.Refused n) → eqb n 0 ≡ false
+  unfolding answerOf
+  refusal-not-zero n q =
+      not-zero (formed start && formed goal) (ltb (length before) 32) (blocked shape24 start goal) (planOf shape24 start goal) n before after q
+
+  -- so the two numbers say which of the two it was
+  as-numbers : (p : Planned) → Said p → (writes : List ℕ) → plannedAs (refusalOf p) (writesAfter p writes) ≡ p
+  as-numbers (Planned.Writes n) q writes = refl
+  as-numbers (Planned.Refused n) q writes = simp (refusal-not-zero n q)
+
+kept-writes : (p : Planned) (writes : List ℕ) → eqb (refusalOf p) 0 ≡ false → writesAfter p writes ≡ writes
+kept-writes (Planned.Writes n) writes h = clash true refl h
+kept-writes (Planned.Refused n) writes h = refl
+
+pub plan-told : {start goal before after : List ℕ} (p : Planned) → Promise start goal before after (refusalOf p) (countOf p) → Said start goal before after p
+    → {n : ℕ} {writes rest : List ℕ} → n ≡ refusalOf p → rest ≡ writesAfter p writes
+    → Said start goal before after (plannedAs n rest) × (Promise start goal before after n (countIn n rest) × (eqb n 0 ≡ false → rest ≡ writes))
+plan-told {start} {goal} {before} {after} p promise said {n} {writes} {rest} e q =
+    let same : plannedAs n rest ≡ p = ap₂ plannedAs e q ∙ as-numbers start goal before after p said writes in (
+      subst (Said start goal before after) (sym same) said,
+      (
+        subst (λ (m : ℕ). Promise start goal before after m (countIn n rest)) (sym e)
+            (subst (Promise start goal before after (refusalOf p)) (ap countOf (sym same)) promise),
+        λ h. q ∙ kept-writes p writes (ap (λ (n : ℕ). eqb n 0) (sym e) ∙ h),
+      ),
+    )

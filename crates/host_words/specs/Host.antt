@@ -1,0 +1,88 @@
+-- What a C host sees: the state as words, an image as its arrays, answers and refusals as numbers. Each call, whatever is lent to it.
+use mathlib.Core.Bool.{true, false, cond}
+use mathlib.Core.List.{List, [], _∷_}
+use mathlib.Core.Path.{_≡_}
+use Prim.Native.Nat.{ℕ}
+use lib.Dec.{eqb}
+use lib.ListN.{getD}
+use Rattle.map.specs.Map.{part24, reserved}
+use Rattle.registers.specs.Registers.{core, drivenLow, drivenHigh, intAsserted, shown}
+use Rattle.bus.specs.Device.{State, Outcome, state}
+use Rattle.bus.specs.Answers.{answerKind, answerByte, refusalNumber}
+use Rattle.bus.specs.declared.Answer.{Answer}
+use Rattle.refusals.specs.Refusals.{imageFits, stepped}
+use Rattle.refusals.specs.PowerOn.{powerOn, makingRefused}
+use Rattle.promises.specs.Promise.{countOf}
+use Rattle.promises.specs.declared.Planned.{Planned}
+use Rattle.word_bus.specs.Packed.{stateIn, Packed}
+
+-- the answer's kind and byte; a refusal leaves what was lent for them as it was
+abbrev pub toldAs : Answer → (lent : List ℕ) → List ℕ
+toldAs answer lent = cond (eqb (answerKind answer) 4) lent (answerKind answer ∷ answerByte answer ∷ [])
+
+-- what one event leaves of words that are packed: the refusal's number, 0 for none; the state after; the answer
+pub record Taken (o : Outcome) (number : ℕ) (w' told told' : List ℕ) : Type 0 where
+  pub refused : number ≡ refusalNumber (o .answer)
+  pub packed : Packed 0 w'
+  pub after : stateIn part24 w' ≡ o .after
+  pub answer : told' ≡ toldAs (o .answer) told
+
+-- one event: by the rules where the words are packed; 3 where they are not; refused, nothing lent is changed
+pub record Told (w : List ℕ) (kind arg number : ℕ) (w' told told' : List ℕ) : Type 0 where
+  pub taken : Packed 0 w → Taken (stepped part24 (stateIn part24 w) kind arg) number w' told told'
+  pub broken : (Packed 0 w → ⊥) → number ≡ 3
+  pub unchanged : eqb number 0 ≡ false → (w' ≡ w) × (told' ≡ told)
+
+-- making a device: refused, the words as they were
+pub record Made (choice levels number : ℕ) (w w' : List ℕ) : Type 0 where
+  pub refused : number ≡ makingRefused part24 choice levels
+  pub made : makingRefused part24 choice levels ≡ 0 → Packed 0 w' × (stateIn part24 w' ≡ powerOn part24 choice levels)
+  pub unchanged : eqb (makingRefused part24 choice levels) 0 ≡ false → w' ≡ w
+
+-- what can be seen of a device: 3 if it is broken, and then what was lent for it stays as it was
+pub record Seen (w : List ℕ) (value : State → List ℕ) (number : ℕ) (lent lent' : List ℕ) : Type 0 where
+  pub seen : Packed 0 w → (number ≡ 0) × (lent' ≡ value (stateIn part24 w))
+  pub broken : (Packed 0 w → ⊥) → (number ≡ 3) × (lent' ≡ lent)
+
+abbrev pub drivesOf : State → List ℕ
+drivesOf s = drivenLow part24 (s .regs) ∷ drivenHigh part24 (s .regs) ∷ []
+
+-- 1 if INT is asserted
+abbrev pub intOf : State → List ℕ
+intOf s = cond (intAsserted part24 (s .regs)) 1 0 ∷ []
+
+-- the byte of one register: after 3 also 2, for a number that is reserved or over 7Fh
+pub record Shown (w : List ℕ) (n number : ℕ) (lent lent' : List ℕ) : Type 0 where
+  pub seen : Packed 0 w
+      → (number ≡ cond (reserved part24 n) 2 0) × (lent' ≡ cond (reserved part24 n) lent (shown part24 (stateIn part24 w .regs) n ∷ []))
+  pub broken : (Packed 0 w → ⊥) → (number ≡ 3) × (lent' ≡ lent)
+
+-- ---- images: the pin sets in the order level, reference, held, edge; the registers; pointer, bus state, address choice
+abbrev pub imageIn : (pins file bus : List ℕ) → State
+imageIn pins file bus =
+    state (core file (record { level = getD pins 0 0; reference = getD pins 1 0; held = getD pins 2 0; edge = getD pins 3 0 }))
+    (getD bus 0 0) (getD bus 1 0) (getD bus 2 0)
+
+-- an image to words: 3 if it may not stand, and then the words stay
+pub record FromImage (image : State) (number : ℕ) (w w' : List ℕ) : Type 0 where
+  pub packed : imageFits part24 image ≡ true → (number ≡ 0) × Packed 0 w' × (stateIn part24 w' ≡ image)
+  pub broken : imageFits part24 image ≡ false → (number ≡ 3) × (w' ≡ w)
+
+-- words to an image: 3 if they are packed of none, and then what was lent for it stays as it was
+pub record ToImage (w : List ℕ) (number : ℕ) (pins file bus pins' file' bus' : List ℕ) : Type 0 where
+  pub unpacked : Packed 0 w → (number ≡ 0) × (imageIn pins' file' bus' ≡ stateIn part24 w)
+  pub broken : (Packed 0 w → ⊥) → (number ≡ 3) × (pins' ≡ pins) × (file' ≡ file) × (bus' ≡ bus)
+
+-- ---- plans
+-- how many writes there are, stored beside the plan; a refusal leaves what was lent for it as it was
+abbrev pub writesAfter : Planned → (before : List ℕ) → List ℕ
+writesAfter (Planned.Writes n) before = n ∷ []
+writesAfter (Planned.Refused n) before = before
+
+-- the planner's answer out of the two: the refusal's number and what was lent for the count
+abbrev pub plannedAs : (number : ℕ) → (writes : List ℕ) → Planned
+plannedAs number writes = cond (eqb number 0) (Planned.Writes (getD writes 0 0)) (Planned.Refused number)
+
+-- and its count, 0 where it was refused
+abbrev pub countIn : (number : ℕ) → (writes : List ℕ) → ℕ
+countIn number writes = countOf (plannedAs number writes)
