@@ -43,14 +43,16 @@ static void keep_best(int64_t *best, int64_t took)
 
 static void same_state(const struct ghixramel *ours, const struct peer *peer, size_t place)
 {
-    same(ours->pins[0], peer->level, "levels", place);
-    same(ours->pins[1], peer->reference, "references", place);
-    same(ours->pins[2], peer->held, "held marks", place);
-    same(ours->pins[3], peer->edge, "edge marks", place);
-    same(ours->bus[0], peer->pointer, "pointers", place);
-    same(ours->bus[1], peer->bus, "bus states", place);
-    same(ours->bus[2], peer->choice, "address choices", place);
-    if (memcmp(ours->registers, peer->registers, sizeof peer->registers) != 0)
+    struct ghixramel_image image = {0};
+    same(ghixramel_to_image(ours, &image), 0, "refusals of images", place);
+    same(image.pins[0], peer->level, "levels", place);
+    same(image.pins[1], peer->reference, "references", place);
+    same(image.pins[2], peer->held, "held marks", place);
+    same(image.pins[3], peer->edge, "edge marks", place);
+    same(image.pointer, peer->pointer, "pointers", place);
+    same(image.bus, peer->bus, "bus states", place);
+    same(image.choice, peer->choice, "address choices", place);
+    if (memcmp(image.registers, peer->registers, sizeof peer->registers) != 0)
         differ("registers", place);
 }
 

@@ -18,12 +18,21 @@
 extern "C" {
 #endif
 
-/* The state of a device, as plain numbers without padding: it may be stored, sent and compared. */
+/* The state of a device, made by ghixramel_power_on or ghixramel_from_image. What a word holds is the library's own
+ * affair; whoever wants to read a state takes its image. A state says its part: words that are the packing of no
+ * well-formed image of a PCAL6524 are a broken image to every call that reads them, refusal 3. There is no padding: a
+ * state may be stored, sent and compared, and equal states are equal bytes. */
 struct ghixramel {
+    uint64_t words[28];
+};
+
+/* What a state holds, to read or to build one. There is no padding here either: equal images are equal bytes. */
+struct ghixramel_image {
     uint64_t pins[4];       /* pin sets, pin 0 in the lowest bit: level, reference, held, edge */
     uint8_t registers[128]; /* one byte for each command number */
-    uint8_t bus[3];         /* pointer, bus state, address choice */
-    uint8_t spare[5];       /* where padding would be: zeroed at power-on, ignored and kept by every other call */
+    uint64_t pointer;       /* a command number that is not reserved */
+    uint64_t bus;           /* the bus state, as numbered below */
+    uint64_t choice;        /* the address choice, 0 to 3 */
 };
 
 /* C99 has no static assertion: an array of -1 bytes stops its compiler, so that no processor's layout goes unseen. */
@@ -34,11 +43,15 @@ struct ghixramel {
 #else
 #define GHIXRAMEL_ASSERT(name, fact) typedef char ghixramel_assert_##name[(fact) ? 1 : -1]
 #endif
-GHIXRAMEL_ASSERT(pins, offsetof(struct ghixramel, pins) == 0);
-GHIXRAMEL_ASSERT(registers, offsetof(struct ghixramel, registers) == 32);
-GHIXRAMEL_ASSERT(bus, offsetof(struct ghixramel, bus) == 160);
-GHIXRAMEL_ASSERT(spare, offsetof(struct ghixramel, spare) == 163);
-GHIXRAMEL_ASSERT(size, sizeof(struct ghixramel) == 168);
+/* The library takes a pointer to the words, and a pointer to the state is one. */
+GHIXRAMEL_ASSERT(words, offsetof(struct ghixramel, words) == 0);
+GHIXRAMEL_ASSERT(size, sizeof(struct ghixramel) == 224);
+GHIXRAMEL_ASSERT(pins, offsetof(struct ghixramel_image, pins) == 0);
+GHIXRAMEL_ASSERT(registers, offsetof(struct ghixramel_image, registers) == 32);
+GHIXRAMEL_ASSERT(pointer, offsetof(struct ghixramel_image, pointer) == 160);
+GHIXRAMEL_ASSERT(bus, offsetof(struct ghixramel_image, bus) == 168);
+GHIXRAMEL_ASSERT(choice, offsetof(struct ghixramel_image, choice) == 176);
+GHIXRAMEL_ASSERT(image_size, sizeof(struct ghixramel_image) == 184);
 #undef GHIXRAMEL_ASSERT
 
 /* Refusals. */
@@ -46,7 +59,7 @@ enum {
     GHIXRAMEL_DONE = 0,
     GHIXRAMEL_BAD_KIND = 1,     /* event kind above 5 */
     GHIXRAMEL_BAD_ARGUMENT = 2, /* byte, acknowledge bit, levels, address choice or register number out of range */
-    GHIXRAMEL_BAD_IMAGE = 3,    /* broken: a number out of range, or an entry where none is stored */
+    GHIXRAMEL_BAD_IMAGE = 3,    /* broken: a number out of range, an entry where none is stored, or a state that no image makes */
     GHIXRAMEL_NO_QUIET_WAY = 4, /* no list of writes gets there without disturbing a pin */
     GHIXRAMEL_BAD_SETTING = 5,  /* start or goal not ten bytes, or its 5C over 7 */
     GHIXRAMEL_BUFFER_SMALL = 6  /* plan buffer under GHIXRAMEL_PLAN_BYTES */
@@ -70,7 +83,7 @@ enum {
     GHIXRAMEL_READ = 3 /* a byte was read; answer[1] is it */
 };
 
-/* Bus states, as bus[1] has them. */
+/* Bus states, as the image's `bus` has them. */
 enum {
     GHIXRAMEL_IDLE = 0,
     GHIXRAMEL_OPENED = 1,
@@ -85,45 +98,44 @@ enum {
 /* A setting is ten bytes, for the registers 04 05 06 0C 0D 0E 5C 70 71 72 in this order. */
 enum { GHIXRAMEL_SETTING_BYTES = 10, GHIXRAMEL_MOST_WRITES = 16, GHIXRAMEL_PLAN_BYTES = 32 };
 
-/* The functions on the three arrays, for a host that lays out its state itself; those on the struct come below. */
-uint32_t ghixramel_arrays_power_on(uint64_t pins[4], uint8_t registers[128], uint8_t bus[3], uint32_t choice, uint64_t levels);
-uint32_t ghixramel_arrays_step(uint64_t pins[4], uint8_t registers[128], uint8_t bus[3], uint32_t kind, uint64_t argument, uint8_t answer[2]);
-uint32_t ghixramel_arrays_drives(const uint64_t pins[4], const uint8_t registers[128], const uint8_t bus[3], uint64_t drives[2]);
-uint32_t ghixramel_arrays_int(const uint64_t pins[4], const uint8_t registers[128], const uint8_t bus[3], uint8_t asserted[1]);
-uint32_t ghixramel_arrays_show(const uint64_t pins[4], const uint8_t registers[128], const uint8_t bus[3], uint32_t number, uint8_t shown[1]);
+/* A device at power-on, at address choice 0 to 3, with these pin levels; what its memory held does not matter. Refusal 2. */
+uint32_t ghixramel_power_on(struct ghixramel *device, uint32_t choice, uint64_t levels);
 
-/* A device at power-on, at address choice 0 to 3, with these pin levels. Refusal 2. */
-static inline uint32_t ghixramel_power_on(struct ghixramel *device, uint32_t choice, uint64_t levels)
+/* One event. answer[0] is the answer's kind, answer[1] the byte read, else 0. Refusals 3, 1, 2. */
+uint32_t ghixramel_step(struct ghixramel *device, uint32_t kind, uint64_t argument, uint8_t answer[2]);
+
+/* The pins driven low, drives[0], and driven high, drives[1]; the others are released. Refusal 3. */
+uint32_t ghixramel_drives(const struct ghixramel *device, uint64_t drives[2]);
+
+/* asserted[0] is 1 if INT is asserted (the line low), else 0. Refusal 3. */
+uint32_t ghixramel_int(const struct ghixramel *device, uint8_t asserted[1]);
+
+/* shown[0] is the byte that a fetch of register `number` would show; nothing is settled. Refusals 3 and 2: reserved or over 7Fh. */
+uint32_t ghixramel_show(const struct ghixramel *device, uint32_t number, uint8_t shown[1]);
+
+/* The words of an image, and back, for a host that lays out its images itself; those on the structs come below.
+ * bus is the pointer, the bus state and the address choice. Refusal 3. */
+uint32_t ghixramel_pack(uint64_t words[28], const uint64_t pins[4], const uint8_t registers[128], const uint64_t bus[3]);
+uint32_t ghixramel_unpack(const uint64_t words[28], uint64_t pins[4], uint8_t registers[128], uint64_t bus[3]);
+
+/* The image of a state. Refusal 3. */
+static inline uint32_t ghixramel_to_image(const struct ghixramel *device, struct ghixramel_image *image)
 {
-    uint32_t refusal = ghixramel_arrays_power_on(device->pins, device->registers, device->bus, choice, levels);
-    if (refusal == GHIXRAMEL_DONE)
-        for (uint32_t i = 0; i < sizeof device->spare; i++)
-            device->spare[i] = 0;
+    uint64_t bus[3] = {0};
+    uint32_t refusal = ghixramel_unpack(device->words, image->pins, image->registers, bus);
+    if (refusal == GHIXRAMEL_DONE) {
+        image->pointer = bus[0];
+        image->bus = bus[1];
+        image->choice = bus[2];
+    }
     return refusal;
 }
 
-/* One event. answer[0] is the answer's kind, answer[1] the byte read, else 0. Refusals 3, 1, 2. */
-static inline uint32_t ghixramel_step(struct ghixramel *device, uint32_t kind, uint64_t argument, uint8_t answer[2])
+/* A device in the state that the image says; what its memory held does not matter. Refusal 3. */
+static inline uint32_t ghixramel_from_image(struct ghixramel *device, const struct ghixramel_image *image)
 {
-    return ghixramel_arrays_step(device->pins, device->registers, device->bus, kind, argument, answer);
-}
-
-/* The pins driven low, drives[0], and driven high, drives[1]; the others are released. Refusal 3. */
-static inline uint32_t ghixramel_drives(const struct ghixramel *device, uint64_t drives[2])
-{
-    return ghixramel_arrays_drives(device->pins, device->registers, device->bus, drives);
-}
-
-/* asserted[0] is 1 if INT is asserted (the line low), else 0. Refusal 3. */
-static inline uint32_t ghixramel_int(const struct ghixramel *device, uint8_t asserted[1])
-{
-    return ghixramel_arrays_int(device->pins, device->registers, device->bus, asserted);
-}
-
-/* shown[0] is the byte that a fetch of register `number` would show; nothing is settled. Refusals 3 and 2: reserved or over 7Fh. */
-static inline uint32_t ghixramel_show(const struct ghixramel *device, uint32_t number, uint8_t shown[1])
-{
-    return ghixramel_arrays_show(device->pins, device->registers, device->bus, number, shown);
+    const uint64_t bus[3] = {image->pointer, image->bus, image->choice};
+    return ghixramel_pack(device->words, image->pins, image->registers, bus);
 }
 
 /* The writes that lead from one setting to another: writes[0] pairs register, value from the start of the buffer,

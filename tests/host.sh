@@ -18,15 +18,16 @@ objects() { # NAMES..
 
 build() {
     local name watched="checks guarded stack"
+    local host="host $watched images words master refused points refusals broken carried shows plans"
     mkdir -p "$out" || return 1
-    for name in host $watched images master points refusals shows plans as_peer plan_lines view_lines; do
+    for name in $host as_peer plan_lines view_lines; do
         compile_c "$out/$name.o" "tests/c/$name.c" -I bench || return 1
     done
-    for name in mix peer_probe peer_trace; do
+    for name in mix peer peer_probe peer_trace; do
         compile_c "$out/$name.o" "bench/$name.c" || return 1
     done
     # shellcheck disable=SC2046,SC2086
-    link_c "$out/host" $(objects host $watched images master points refusals shows plans mix) "$library" &&
+    link_c "$out/host" $(objects $host mix peer) "$library" &&
         link_c "$out/probe" $(objects peer_probe as_peer $watched) "$library" &&
         link_c "$out/trace" $(objects peer_trace as_peer $watched) "$library" &&
         link_c "$out/plan" $(objects plan_lines $watched) "$library" &&

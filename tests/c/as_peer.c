@@ -1,45 +1,37 @@
 /* The library in the peer's place: linked with the peer's programs, it lets the model judge the library's answers. */
 #include "checks.h"
 #include "guarded.h"
-#include "peer.h"
+#include "peer_image.h"
 
-#include <libc.h>
-
-/* The peer has no spare bytes: any will do, if not those of power-on. */
 static struct ghixramel device_of(const struct peer *peer)
 {
-    struct ghixramel device = {
-        {peer->level, peer->reference, peer->held, peer->edge}, {0}, {peer->pointer, peer->bus, peer->choice}, {1, 2, 3, 4, 5}};
-    memcpy(device.registers, peer->registers, sizeof device.registers);
-    return device;
+    struct ghixramel_image image = image_of_peer(peer);
+    return guarded_device(&image);
 }
 
-static void keep(struct peer *peer, const struct ghixramel *device)
+/* A refused call leaves the peer's state as it was. */
+static uint32_t keep(struct peer *peer, const struct ghixramel *device, uint32_t refusal)
 {
-    peer->level = device->pins[0];
-    peer->reference = device->pins[1];
-    peer->held = device->pins[2];
-    peer->edge = device->pins[3];
-    memcpy(peer->registers, device->registers, sizeof peer->registers);
-    peer->pointer = device->bus[0];
-    peer->bus = device->bus[1];
-    peer->choice = device->bus[2];
+    struct ghixramel_image image = {0};
+    if (refusal != GHIXRAMEL_DONE)
+        return refusal;
+    want("refusal of to_image", GHIXRAMEL_DONE, guarded_to_image(device, &image));
+    *peer = peer_of_image(&image);
+    return refusal;
 }
 
 uint32_t peer_power_on(struct peer *peer, uint32_t choice, uint64_t levels)
 {
     struct ghixramel device = device_of(peer);
     uint32_t refusal = guarded_power_on(&device, choice, levels);
-    keep(peer, &device);
-    return refusal;
+    return keep(peer, &device, refusal);
 }
 
 uint32_t peer_step(struct peer *peer, uint32_t kind, uint64_t argument, uint8_t answer[2])
 {
     struct ghixramel device = device_of(peer);
     uint32_t refusal = guarded_step(&device, kind, argument, answer);
-    keep(peer, &device);
-    return refusal;
+    return keep(peer, &device, refusal);
 }
 
 void peer_drives(const struct peer *peer, uint64_t drives[2])

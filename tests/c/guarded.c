@@ -7,7 +7,7 @@
 
 /* An odd guard puts byte arrays at odd addresses, where a host may have them. */
 enum { GUARD = 17, FILL = 0xA5, MOST_STACK = 4096 };
-enum function { POWER_ON, STEP, DRIVES, INT, SHOW, PLAN, FUNCTIONS };
+enum function { POWER_ON, STEP, DRIVES, INT, SHOW, FROM_IMAGE, TO_IMAGE, PLAN, FUNCTIONS };
 
 struct results {
     uint8_t answer[2];
@@ -26,21 +26,27 @@ struct results {
 /* All that can be lent. */
 struct lent {
     uint8_t guard_0[GUARD];
-    uint64_t pins[4];
-    uint8_t guard_1[GUARD];
-    uint8_t registers[128];
-    uint8_t guard_2[GUARD];
-    uint8_t bus[3];
-    uint8_t guard_3[GUARD];
     struct ghixramel device;
+    uint8_t guard_1[GUARD];
+    struct ghixramel elsewhere;
+    uint8_t guard_2[GUARD];
+    uint64_t pins[4];
+    uint8_t guard_3[GUARD];
+    uint8_t registers[128];
     uint8_t guard_4[GUARD];
-    uint8_t start[MOST_LENT_BYTES];
+    uint64_t bus[3];
     uint8_t guard_5[GUARD];
-    uint8_t goal[MOST_LENT_BYTES];
+    struct ghixramel_image image;
     uint8_t guard_6[GUARD];
-    struct results results;
+    uint8_t start[MOST_LENT_BYTES];
     uint8_t guard_7[GUARD];
+    uint8_t goal[MOST_LENT_BYTES];
+    uint8_t guard_8[GUARD];
+    struct results results;
+    uint8_t guard_9[GUARD];
 };
+_Static_assert(offsetof(struct lent, device) % 16 == 8 && offsetof(struct lent, elsewhere) % 16 == 0,
+               "a host owes a state the alignment of its words, and no more");
 
 /* A call on the other stack takes its numbers from here, and leaves its refusal. */
 struct numbers {
@@ -49,59 +55,56 @@ struct numbers {
     uint64_t start_bytes, goal_bytes, buffer_bytes;
 };
 
-static struct lent lent, before, first, allowed;
+static _Alignas(16) struct lent lent;
+static struct lent before, first, allowed;
+static struct ghixramel *at; /* the first call's device, or that elsewhere */
 static struct numbers numbers;
 static uint32_t refusal;
 static size_t most_used[FUNCTIONS];
 
-static void power_on_arrays(void)
+static void power_on(void)
 {
-    refusal = ghixramel_arrays_power_on(lent.pins, lent.registers, lent.bus, numbers.small, numbers.large);
+    refusal = ghixramel_power_on(at, numbers.small, numbers.large);
 }
 
-static void power_on_struct(void)
+static void step(void)
 {
-    refusal = ghixramel_power_on(&lent.device, numbers.small, numbers.large);
+    refusal = ghixramel_step(at, numbers.small, numbers.large, lent.results.answer);
 }
 
-static void step_arrays(void)
+static void drives(void)
 {
-    refusal = ghixramel_arrays_step(lent.pins, lent.registers, lent.bus, numbers.small, numbers.large, lent.results.answer);
+    refusal = ghixramel_drives(at, lent.results.drives);
 }
 
-static void step_struct(void)
+static void int_line(void)
 {
-    refusal = ghixramel_step(&lent.device, numbers.small, numbers.large, lent.results.answer);
+    refusal = ghixramel_int(at, lent.results.asserted);
 }
 
-static void drives_arrays(void)
+static void show(void)
 {
-    refusal = ghixramel_arrays_drives(lent.pins, lent.registers, lent.bus, lent.results.drives);
+    refusal = ghixramel_show(at, numbers.small, lent.results.shown);
 }
 
-static void drives_struct(void)
+static void from_arrays(void)
 {
-    refusal = ghixramel_drives(&lent.device, lent.results.drives);
+    refusal = ghixramel_pack(at->words, lent.pins, lent.registers, lent.bus);
 }
 
-static void int_arrays(void)
+static void from_struct(void)
 {
-    refusal = ghixramel_arrays_int(lent.pins, lent.registers, lent.bus, lent.results.asserted);
+    refusal = ghixramel_from_image(at, &lent.image);
 }
 
-static void int_struct(void)
+static void to_arrays(void)
 {
-    refusal = ghixramel_int(&lent.device, lent.results.asserted);
+    refusal = ghixramel_unpack(at->words, lent.pins, lent.registers, lent.bus);
 }
 
-static void show_arrays(void)
+static void to_struct(void)
 {
-    refusal = ghixramel_arrays_show(lent.pins, lent.registers, lent.bus, numbers.small, lent.results.shown);
-}
-
-static void show_struct(void)
-{
-    refusal = ghixramel_show(&lent.device, numbers.small, lent.results.shown);
+    refusal = ghixramel_to_image(at, &lent.image);
 }
 
 static void plan(void)
@@ -111,30 +114,20 @@ static void plan(void)
 }
 
 /* What a call may have written is laid over the copy from before. */
-static void allow(const void *at, size_t bytes)
+static void allow(const void *written, size_t bytes)
 {
-    memcpy((uint8_t *)&allowed + ((const uint8_t *)at - (const uint8_t *)&lent), at, bytes);
+    memcpy((uint8_t *)&allowed + ((const uint8_t *)written - (const uint8_t *)&lent), written, bytes);
 }
 
-static void allow_arrays(void)
+static void allow_image(void)
 {
+    if (at == &lent.elsewhere) {
+        allow(&lent.image, sizeof lent.image);
+        return;
+    }
     allow(lent.pins, sizeof lent.pins);
     allow(lent.registers, sizeof lent.registers);
     allow(lent.bus, sizeof lent.bus);
-}
-
-static void allow_struct(void)
-{
-    allow(lent.device.pins, sizeof lent.device.pins);
-    allow(lent.device.registers, sizeof lent.device.registers);
-    allow(lent.device.bus, sizeof lent.device.bus);
-}
-
-/* Power-on alone writes the spare bytes, and nothing but 0. */
-static void allow_made_struct(void)
-{
-    allow_struct();
-    memset(allowed.device.spare, 0, sizeof allowed.device.spare);
 }
 
 /* A number of writes that is too large is a failed check. */
@@ -146,14 +139,15 @@ static void allow_plan(void)
     allow(lent.results.buffer, fits ? 2 * (size_t)lent.results.writes[0] : 0);
 }
 
-static void allow_results(enum function function, void (*allow_state)(void))
+static void allow_results(enum function function)
 {
     switch (function) {
     case POWER_ON:
-        allow_state();
+    case FROM_IMAGE:
+        allow(at, sizeof *at);
         break;
     case STEP:
-        allow_state();
+        allow(at, sizeof *at);
         allow(lent.results.answer, sizeof lent.results.answer);
         break;
     case DRIVES:
@@ -165,19 +159,23 @@ static void allow_results(enum function function, void (*allow_state)(void))
     case SHOW:
         allow(lent.results.shown, sizeof lent.results.shown);
         break;
+    case TO_IMAGE:
+        allow_image();
+        break;
     default:
         allow_plan();
     }
 }
 
-static void watch_one(enum function function, void (*call)(void), void (*allow_state)(void))
+static void watch_one(enum function function, struct ghixramel *device, void (*call)(void))
 {
+    at = device;
     size_t used = stack_used(call);
     if (used > most_used[function])
         most_used[function] = used;
     memcpy(&allowed, &before, sizeof lent);
     if (refusal == GHIXRAMEL_DONE)
-        allow_results(function, allow_state);
+        allow_results(function);
     want(refusal == GHIXRAMEL_DONE ? "memory beside the results changed" : "memory changed by a refused call", 0,
          memcmp(&allowed, &lent, sizeof lent) != 0);
 }
@@ -187,60 +185,69 @@ static void same_as_first(const char *what, const void *in_first, const void *no
     want(what, 0, memcmp(in_first, now, bytes) != 0);
 }
 
-static void watch(enum function function, void (*on_arrays)(void), void (*on_struct)(void))
+static void watch(enum function function, void (*call)(void), void (*second_call)(void))
 {
     memcpy(&before, &lent, sizeof lent);
-    watch_one(function, on_arrays, allow_arrays);
+    watch_one(function, &lent.device, call);
     uint32_t first_refusal = refusal;
     memcpy(&first, &lent, sizeof lent);
     memcpy(&lent, &before, sizeof lent);
-    watch_one(function, on_struct, function == POWER_ON ? allow_made_struct : allow_struct);
+    watch_one(function, &lent.elsewhere, second_call);
     want("refusal of a second call", first_refusal, refusal);
-    same_as_first("pin sets differ on a second call", first.pins, lent.device.pins, sizeof first.pins);
-    same_as_first("registers differ on a second call", first.registers, lent.device.registers, sizeof first.registers);
-    same_as_first("bus state differs on a second call", first.bus, lent.device.bus, sizeof first.bus);
+    same_as_first("state differs on a second call", &first.device, &lent.elsewhere, sizeof first.device);
+    same_as_first("pin sets differ on a second call", first.pins, lent.image.pins, sizeof first.pins);
+    same_as_first("registers differ on a second call", first.registers, lent.image.registers, sizeof first.registers);
+    same_as_first("bus numbers differ on a second call", first.bus,
+                  (const uint8_t *)&lent.image + offsetof(struct ghixramel_image, pointer), sizeof first.bus);
     same_as_first("results differ on a second call", &first.results, &lent.results, sizeof first.results);
 }
 
 static void lend(const struct ghixramel *device, struct numbers with)
 {
     memset(&lent, FILL, sizeof lent);
-    memcpy(lent.pins, device->pins, sizeof lent.pins);
-    memcpy(lent.registers, device->registers, sizeof lent.registers);
-    memcpy(lent.bus, device->bus, sizeof lent.bus);
     memcpy(&lent.device, device, sizeof lent.device);
+    memcpy(&lent.elsewhere, device, sizeof lent.elsewhere);
     numbers = with;
+}
+
+static void lend_image(const struct ghixramel_image *image)
+{
+    const uint64_t bus[3] = {image->pointer, image->bus, image->choice};
+    memcpy(lent.pins, image->pins, sizeof lent.pins);
+    memcpy(lent.registers, image->registers, sizeof lent.registers);
+    memcpy(lent.bus, bus, sizeof lent.bus);
+    memcpy(&lent.image, image, sizeof lent.image);
 }
 
 uint32_t guarded_power_on(struct ghixramel *device, uint32_t choice, uint64_t levels)
 {
     lend(device, (struct numbers){.small = choice, .large = levels});
-    watch(POWER_ON, power_on_arrays, power_on_struct);
-    memcpy(device, &lent.device, sizeof lent.device);
+    watch(POWER_ON, power_on, power_on);
+    memcpy(device, &lent.elsewhere, sizeof lent.elsewhere);
     return refusal;
 }
 
 uint32_t guarded_step(struct ghixramel *device, uint32_t kind, uint64_t argument, uint8_t answer[2])
 {
     lend(device, (struct numbers){.small = kind, .large = argument});
-    watch(STEP, step_arrays, step_struct);
-    memcpy(device, &lent.device, sizeof lent.device);
+    watch(STEP, step, step);
+    memcpy(device, &lent.elsewhere, sizeof lent.elsewhere);
     memcpy(answer, lent.results.answer, sizeof lent.results.answer);
     return refusal;
 }
 
-uint32_t guarded_drives(const struct ghixramel *device, uint64_t drives[2])
+uint32_t guarded_drives(const struct ghixramel *device, uint64_t driven[2])
 {
     lend(device, (struct numbers){0});
-    watch(DRIVES, drives_arrays, drives_struct);
-    memcpy(drives, lent.results.drives, sizeof lent.results.drives);
+    watch(DRIVES, drives, drives);
+    memcpy(driven, lent.results.drives, sizeof lent.results.drives);
     return refusal;
 }
 
 uint32_t guarded_int(const struct ghixramel *device, uint8_t asserted[1])
 {
     lend(device, (struct numbers){0});
-    watch(INT, int_arrays, int_struct);
+    watch(INT, int_line, int_line);
     memcpy(asserted, lent.results.asserted, sizeof lent.results.asserted);
     return refusal;
 }
@@ -248,9 +255,57 @@ uint32_t guarded_int(const struct ghixramel *device, uint8_t asserted[1])
 uint32_t guarded_show(const struct ghixramel *device, uint32_t number, uint8_t shown[1])
 {
     lend(device, (struct numbers){.small = number});
-    watch(SHOW, show_arrays, show_struct);
+    watch(SHOW, show, show);
     memcpy(shown, lent.results.shown, sizeof lent.results.shown);
     return refusal;
+}
+
+static void comes_out(const struct ghixramel *device, const struct ghixramel_image *image)
+{
+    struct ghixramel_image out;
+    memset(&out, FILL, sizeof out);
+    want("refusal of the image of a state that came from one", GHIXRAMEL_DONE, ghixramel_to_image(device, &out));
+    want("image comes out other than it was taken", 0, memcmp(image, &out, sizeof out) != 0);
+}
+
+static void goes_in(const struct ghixramel_image *image, const struct ghixramel *device)
+{
+    struct ghixramel in;
+    memset(&in, FILL, sizeof in);
+    want("refusal of an image that a state gave", GHIXRAMEL_DONE, ghixramel_from_image(&in, image));
+    want("image makes another state than gave it", 0, memcmp(device, &in, sizeof in) != 0);
+}
+
+uint32_t guarded_from_image(struct ghixramel *device, const struct ghixramel_image *image)
+{
+    lend(device, (struct numbers){0});
+    lend_image(image);
+    watch(FROM_IMAGE, from_arrays, from_struct);
+    memcpy(device, &lent.elsewhere, sizeof lent.elsewhere);
+    if (refusal == GHIXRAMEL_DONE)
+        comes_out(device, image);
+    return refusal;
+}
+
+uint32_t guarded_to_image(const struct ghixramel *device, struct ghixramel_image *image)
+{
+    lend(device, (struct numbers){0});
+    lend_image(image);
+    watch(TO_IMAGE, to_arrays, to_struct);
+    memcpy(image, &lent.image, sizeof lent.image);
+    if (refusal == GHIXRAMEL_DONE)
+        goes_in(image, device);
+    return refusal;
+}
+
+struct ghixramel guarded_device(const struct ghixramel_image *image)
+{
+    struct ghixramel device;
+    memset(&device, FILL, sizeof device);
+    uint32_t refused = guarded_from_image(&device, image);
+    if (refused != GHIXRAMEL_DONE)
+        want("refusal of a broken image", GHIXRAMEL_BAD_IMAGE, refused);
+    return device;
 }
 
 uint32_t guarded_plan(const uint8_t *start, uint64_t start_bytes, const uint8_t *goal, uint64_t goal_bytes, uint8_t *buffer,
@@ -268,7 +323,7 @@ uint32_t guarded_plan(const uint8_t *start, uint64_t start_bytes, const uint8_t 
 
 void check_stacks(void)
 {
-    static const char *const names[FUNCTIONS] = {"power_on", "step", "drives", "int", "show", "plan"};
+    static const char *const names[FUNCTIONS] = {"power_on", "step", "drives", "int", "show", "from_image", "to_image", "plan"};
     for (int i = 0; i < FUNCTIONS; i++) {
         about(names[i], most_used[i]);
         want("the call was measured and used less than 4096 bytes of stack", 1, most_used[i] > 0 && most_used[i] < MOST_STACK);

@@ -1,7 +1,8 @@
-/* The library's calls, each watched: made in memory with guard bytes around every array and on a stack of its own, once
- * on the three arrays and once more, from the same beginning, on the struct. Checked each time: a refused call changed
- * no byte, another only its results, and of the spare bytes none, unless it made a device and zeroed them; both calls
- * gave the same, so nothing was kept in between and the spare bytes did not matter. */
+/* The library's calls, each watched: made in memory with guard bytes around every array and on a stack of its own, and
+ * once more from the same beginning, with the state elsewhere in memory and the image as the struct where it was arrays.
+ * Checked each time: a refused call changed no byte, another only its results; both calls gave the same, so nothing was
+ * kept in between and the place did not matter. An image that was taken comes out as the same bytes; one that was given
+ * makes the same state again, byte for byte. */
 #ifndef GUARDED_H
 #define GUARDED_H
 
@@ -15,6 +16,12 @@ uint32_t guarded_step(struct ghixramel *device, uint32_t kind, uint64_t argument
 uint32_t guarded_drives(const struct ghixramel *device, uint64_t drives[2]);
 uint32_t guarded_int(const struct ghixramel *device, uint8_t asserted[1]);
 uint32_t guarded_show(const struct ghixramel *device, uint32_t number, uint8_t shown[1]);
+uint32_t guarded_from_image(struct ghixramel *device, const struct ghixramel_image *image);
+uint32_t guarded_to_image(const struct ghixramel *device, struct ghixramel_image *image);
+
+/* A device in the state of the image; of a broken image none, so that every call on it is refused with 3. */
+struct ghixramel guarded_device(const struct ghixramel_image *image);
+
 uint32_t guarded_plan(const uint8_t *start, uint64_t start_bytes, const uint8_t *goal, uint64_t goal_bytes, uint8_t *buffer,
                       uint64_t buffer_bytes, uint64_t writes[1]);
 

@@ -1,4 +1,4 @@
-/* The library as a host calls it: the rules' worked example and bench points, every refusal, the planner over the bus.
+/* The library as a host calls it: the rules' worked example and bench points, every refusal, images in and out, the planner over the bus.
  * A line for each check that failed; the last line is `host: N checks, M failed`. */
 #include "checks.h"
 #include "guarded.h"
@@ -9,6 +9,8 @@ int main(void)
     check_points();
     check_device_refusals();
     check_bounds();
+    check_broken();
+    check_carried();
     check_shows();
     check_plans();
     check_stacks();

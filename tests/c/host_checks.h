@@ -5,6 +5,8 @@
 void check_points(void);
 void check_device_refusals(void);
 void check_bounds(void);
+void check_broken(void);
+void check_carried(void);
 void check_shows(void);
 void check_plans(void);
 

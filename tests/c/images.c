@@ -44,17 +44,24 @@ static uint8_t random_pointer(uint64_t *random)
     return (uint8_t)(group->first + random_below(random, (uint32_t)group->last - group->first + 1));
 }
 
-struct ghixramel random_image(uint64_t *random)
+struct ghixramel_image random_image(uint64_t *random)
 {
-    struct ghixramel image;
+    struct ghixramel_image image;
     for (int i = 0; i < 4; i++)
         image.pins[i] = random_below(random, ALL_PINS + 1);
     for (uint32_t number = 0; number < REGISTERS; number++)
         image.registers[number] = (uint8_t)random_below(random, 256) & stored_bits(number);
-    image.bus[0] = random_pointer(random);
-    image.bus[1] = (uint8_t)random_below(random, 8);
-    image.bus[2] = (uint8_t)random_below(random, 4);
-    for (size_t i = 0; i < sizeof image.spare; i++)
-        image.spare[i] = (uint8_t)random_below(random, 256);
+    image.pointer = random_pointer(random);
+    image.bus = random_below(random, 8);
+    image.choice = random_below(random, 4);
+    return image;
+}
+
+struct ghixramel_image power_on_image(uint32_t choice, uint64_t levels)
+{
+    struct ghixramel_image image = {.pins = {levels, levels}, .bus = GHIXRAMEL_IDLE, .choice = choice};
+    for (int i = 0; i < GROUPS; i++)
+        for (uint32_t number = groups[i].first; number <= groups[i].last; number++)
+            image.registers[number] = groups[i].power_on;
     return image;
 }

@@ -1,4 +1,4 @@
-/* The register map as the rules have it, and states of a device. */
+/* The register map as the rules have it, and images of a device. */
 #ifndef IMAGES_H
 #define IMAGES_H
 
@@ -20,7 +20,10 @@ const struct group *group_of(uint32_t number);
 /* The bits of an entry that can be other than 0. */
 uint8_t stored_bits(uint32_t number);
 
-/* Any state that a device can be in, and any spare bytes. */
-struct ghixramel random_image(uint64_t *random);
+/* Any state that a device can be in. */
+struct ghixramel_image random_image(uint64_t *random);
+
+/* The image at power-on, as the rules have it. */
+struct ghixramel_image power_on_image(uint32_t choice, uint64_t levels);
 
 #endif

@@ -13,6 +13,22 @@ struct ghixramel device_with(uint32_t choice, uint64_t levels)
     return device;
 }
 
+struct ghixramel device_from(const struct ghixramel_image *image)
+{
+    struct ghixramel device;
+    memset(&device, 0xFF, sizeof device);
+    want("refusal of an image", GHIXRAMEL_DONE, guarded_from_image(&device, image));
+    return device;
+}
+
+struct ghixramel_image image_of(const struct ghixramel *device)
+{
+    struct ghixramel_image image;
+    memset(&image, 0xFF, sizeof image);
+    want("refusal of to_image", GHIXRAMEL_DONE, guarded_to_image(device, &image));
+    return image;
+}
+
 uint32_t answer_to(struct ghixramel *device, uint32_t kind, uint64_t argument)
 {
     uint8_t answer[2] = {0};
@@ -42,7 +58,7 @@ void set_levels(struct ghixramel *device, uint64_t levels)
 
 static uint32_t address(const struct ghixramel *device)
 {
-    return 2 * (0x20 + (uint32_t)device->bus[2]);
+    return 2 * (0x20 + (uint32_t)image_of(device).choice);
 }
 
 void begin_write(struct ghixramel *device, uint32_t number)

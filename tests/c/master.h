@@ -8,6 +8,8 @@
 enum { NOTHING = GHIXRAMEL_NOTHING << 8, ACK = GHIXRAMEL_ACK << 8, NAK = GHIXRAMEL_NAK << 8, READ = GHIXRAMEL_READ << 8 };
 
 struct ghixramel device_with(uint32_t choice, uint64_t levels);
+struct ghixramel device_from(const struct ghixramel_image *image);
+struct ghixramel_image image_of(const struct ghixramel *device);
 
 uint32_t answer_to(struct ghixramel *device, uint32_t kind, uint64_t argument);
 void start(struct ghixramel *device);

@@ -41,7 +41,8 @@ static struct drives drives_of(const struct ghixramel *device)
 {
     uint64_t drives[2] = {0};
     want("refusal of drives", GHIXRAMEL_DONE, guarded_drives(device, drives));
-    const uint8_t *configuration = device->registers + 0x0C;
+    struct ghixramel_image image = image_of(device);
+    const uint8_t *configuration = image.registers + 0x0C;
     return (struct drives){drives[0], drives[1], configuration[0] | (uint64_t)configuration[1] << 8 | (uint64_t)configuration[2] << 16};
 }
 
@@ -67,14 +68,15 @@ static void run_plan(const struct setting *start, const struct setting *goal, co
     uint64_t moved = 0;
     for (uint64_t n = 0; n < plan->writes[0]; n++) {
         uint8_t number = plan->pairs[2 * n] & 0x7F, value = plan->pairs[2 * n + 1];
-        want("write changes its register", 1, device.registers[number] != value);
+        want("write changes its register", 1, image_of(&device).registers[number] != value);
         write_register(&device, number, value);
         struct drives now = drives_of(&device);
         moved |= pins_that_differ(now, first);
         want("pins neither as at the start nor, once moved, as at the goal", 0, moved & pins_that_differ(now, last));
         want("inputs at both ends that are none", 0, first.inputs & last.inputs & ~now.inputs);
     }
-    want("registers differ from the goal's", 0, memcmp(device.registers, end.registers, sizeof device.registers) != 0);
+    struct ghixramel_image reached = image_of(&device), wanted = image_of(&end);
+    want("registers differ from the goal's", 0, memcmp(reached.registers, wanted.registers, sizeof reached.registers) != 0);
 }
 
 static void want_plan(const char *topic, const struct setting *start, const struct setting *goal)

@@ -50,12 +50,12 @@ static void pointer_after(uint32_t number, uint32_t wanted)
     about("pointer after", number);
     struct ghixramel device = device_with(0, 0);
     begin_write(&device, number);
-    want("pointer after the command", number, device.bus[0]);
+    want("pointer after the command", number, image_of(&device).pointer);
     want("answer to data", ACK, send_byte(&device, 0));
-    want("pointer after a write", wanted, device.bus[0]);
+    want("pointer after a write", wanted, image_of(&device).pointer);
     begin_read(&device, number);
     answer_to(&device, GHIXRAMEL_FETCH, 1);
-    want("pointer after a fetch", wanted, device.bus[0]);
+    want("pointer after a fetch", wanted, image_of(&device).pointer);
 }
 
 static void pointer_points(void)
@@ -136,8 +136,8 @@ static void reset_points(void)
     about("00h, 06h, STOP", 0);
     device = armed_device();
     stop(&device);
-    want("pointer", 0x00, device.bus[0]);
-    want("bus state", GHIXRAMEL_IDLE, device.bus[1]);
+    want("pointer", 0x00, image_of(&device).pointer);
+    want("bus state", GHIXRAMEL_IDLE, image_of(&device).bus);
     want("output register", 0xFF, read_register(&device, OUTPUT));
 }
 
@@ -149,8 +149,8 @@ static void command_points(void)
     start(&device);
     want("answer to the address", ACK, send_byte(&device, 0x40));
     want("answer to the command", NAK, send_byte(&device, 0x03));
-    want("pointer", OUTPUT + 1, device.bus[0]);
-    want("bus state", GHIXRAMEL_DEAF, device.bus[1]);
+    want("pointer", OUTPUT + 1, image_of(&device).pointer);
+    want("bus state", GHIXRAMEL_DEAF, image_of(&device).bus);
     want("answer to a byte after it", NAK, send_byte(&device, 0x00));
 }
 

@@ -7,21 +7,16 @@
 enum { LINE_BYTES = 342, MOST_VIEWS_BYTES = 32 };
 
 struct asked {
-    struct ghixramel device;
+    struct ghixramel_image image;
     uint32_t number;
 };
 
-static const uint8_t *image_fields(const uint8_t *at, struct ghixramel *device)
+static const uint8_t *image_fields(const uint8_t *at, struct ghixramel_image *image)
 {
-    uint64_t value = 0;
-    at = registers_field(at, device->registers);
+    at = registers_field(at, image->registers);
     for (int i = 0; i < 4; i++)
-        at = field(at, 16, &device->pins[i]);
-    for (int i = 0; i < 3; i++) {
-        at = field(at, 2, &value);
-        device->bus[i] = (uint8_t)value;
-    }
-    return at;
+        at = field(at, 16, &image->pins[i]);
+    return field(field(field(at, 2, &image->pointer), 2, &image->bus), 2, &image->choice);
 }
 
 /* The fields have fixed widths, so a line of the right length with a tab after each of eight fields has no room for more. */
@@ -33,7 +28,7 @@ static int read_asked(const uint8_t *line, size_t length, struct asked *asked)
         return 0;
     memcpy(text, line, LINE_BYTES);
     text[LINE_BYTES] = '\n';
-    int readable = field(image_fields(text, &asked->device), 8, &number) != NULL;
+    int readable = field(image_fields(text, &asked->image), 8, &number) != NULL;
     asked->number = (uint32_t)number;
     return readable;
 }
@@ -65,9 +60,10 @@ static uint8_t *put_drives(uint8_t *to, const struct ghixramel *device)
 
 static uint8_t *put_views(uint8_t *to, const struct asked *asked)
 {
-    to = put_byte(put_byte_shown(to, &asked->device, asked->number), '\t');
-    to = put_byte(put_int(to, &asked->device), '\t');
-    return put_byte(put_drives(to, &asked->device), '\n');
+    struct ghixramel device = guarded_device(&asked->image);
+    to = put_byte(put_byte_shown(to, &device, asked->number), '\t');
+    to = put_byte(put_int(to, &device), '\t');
+    return put_byte(put_drives(to, &device), '\n');
 }
 
 int main(void)

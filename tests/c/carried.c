@@ -1,0 +1,160 @@
+/* States carried over as images: the same bytes out and in, and equal states are equal bytes however they came about. */
+#include "checks.h"
+#include "guarded.h"
+#include "host_checks.h"
+#include "images.h"
+#include "master.h"
+#include "mix.h"
+#include "peer_image.h"
+#include "words.h"
+
+#include <libc.h>
+
+enum { IMAGES = 3000, RUNS = 40, EVENTS = 500, ORDERS = 100, SEED = 4 };
+
+#define SAME(what, one, other) want(what, 0, memcmp(one, other, sizeof *(one)) != 0)
+
+/* Out and in again; and the words are where words.h says, so that the tests that break one break what they name. */
+static void carry(const struct ghixramel_image *image)
+{
+    struct ghixramel device = device_from(image), packed = words_of(image);
+    struct ghixramel_image out = image_of(&device);
+    struct ghixramel again = device_from(&out);
+    SAME("image differs", image, &out);
+    SAME("state differs", &device, &again);
+    SAME("words are others than those of the image", &packed, &device);
+}
+
+static void random_images(void)
+{
+    uint64_t random = SEED;
+    for (int i = 0; i < IMAGES; i++) {
+        struct ghixramel_image image = random_image(&random);
+        about("random image", (uint64_t)i);
+        carry(&image);
+    }
+}
+
+/* Each bit of an image by itself, and missing by itself, so that none is lost or lands at another's place. */
+static void one_bit(uint32_t number, uint32_t bit)
+{
+    struct ghixramel_image image = {0};
+    about("one bit of register", number << 8 | bit);
+    image.registers[number] = (uint8_t)(1u << bit);
+    carry(&image);
+    for (uint32_t other = 0; other < REGISTERS; other++)
+        image.registers[other] = stored_bits(other);
+    image.registers[number] ^= (uint8_t)(1u << bit);
+    carry(&image);
+}
+
+static void one_pin(uint32_t set, uint32_t pin)
+{
+    struct ghixramel_image image = {0};
+    about("one pin of set", set << 8 | pin);
+    image.pins[set] = (uint64_t)1 << pin;
+    carry(&image);
+    for (int i = 0; i < 4; i++)
+        image.pins[i] = ALL_PINS;
+    image.pins[set] ^= (uint64_t)1 << pin;
+    carry(&image);
+}
+
+static void single_bits(void)
+{
+    for (uint32_t number = 0; number < REGISTERS; number++)
+        for (uint32_t bit = 0; bit < 8; bit++)
+            if (stored_bits(number) >> bit & 1)
+                one_bit(number, bit);
+    for (uint32_t set = 0; set < 4; set++)
+        for (uint32_t pin = 0; pin < 24; pin++)
+            one_pin(set, pin);
+}
+
+/* After every event the image is the peer's, and the peer's image makes the same state. */
+static void run_beside_peer(struct ghixramel *device, struct mix *mix)
+{
+    struct ghixramel_image begun = image_of(device);
+    struct peer peer = peer_of_image(&begun);
+    for (int i = 0; i < EVENTS; i++) {
+        struct event event = mix_next(mix);
+        uint8_t answer[2] = {0};
+        want("refusal by the peer", GHIXRAMEL_DONE, peer_step(&peer, event.kind, event.argument, answer));
+        want("answer", (uint32_t)answer[0] << 8 | answer[1], answer_to(device, event.kind, event.argument));
+        struct ghixramel_image image = image_of(device), peers = image_of_peer(&peer);
+        struct ghixramel from_peers = device_from(&peers);
+        SAME("image differs from the peer's", &peers, &image);
+        SAME("state differs from that of the peer's image", &from_peers, device);
+    }
+}
+
+/* A reset gives the state of power-on, from wherever. */
+static void want_reset(const struct ghixramel *device)
+{
+    struct ghixramel_image image = image_of(device);
+    struct ghixramel made = device_with((uint32_t)image.choice, image.pins[0]), reset = *device, called = *device;
+    struct ghixramel_image made_image = power_on_image((uint32_t)image.choice, image.pins[0]);
+    struct ghixramel carried = device_from(&made_image);
+    want("answer to a reset", NOTHING, answer_to(&reset, GHIXRAMEL_RESET, 0));
+    start(&called);
+    want("answer to 00h", ACK, send_byte(&called, 0x00));
+    want("answer to 06h", ACK, send_byte(&called, 0x06));
+    stop(&called);
+    SAME("state of the rules' image", &made, &carried);
+    SAME("state after a hardware reset", &made, &reset);
+    SAME("state after a general call", &made, &called);
+}
+
+static void runs(void)
+{
+    uint64_t random = SEED;
+    for (uint32_t i = 0; i < RUNS; i++) {
+        struct mix mix;
+        struct ghixramel_image image = i % 2 ? random_image(&random) : power_on_image(i / 2 % 4, random_below(&random, ALL_PINS + 1));
+        struct ghixramel device = device_from(&image);
+        about("run", i);
+        mix_begin(&mix, SEED + i, (uint32_t)image.choice, (uint32_t)image.pins[0]);
+        run_beside_peer(&device, &mix);
+        want_reset(&device);
+    }
+}
+
+/* Registers written upwards, and downwards over other values: nothing pends, so only the last values can be told. */
+static void write_in_two_orders(uint64_t *random)
+{
+    uint32_t choice = random_below(random, 4), levels = random_below(random, ALL_PINS + 1);
+    struct ghixramel up = device_with(choice, levels), down = device_with(choice, levels);
+    struct ghixramel_image image = random_image(random), wanted = power_on_image(choice, levels);
+    memcpy(wanted.registers, image.registers, sizeof wanted.registers);
+    for (uint32_t number = REGISTERS; number-- > 0;)
+        if (stored_bits(number)) {
+            write_register(&down, number, random_below(random, 256));
+            write_register(&down, number, image.registers[number]);
+        }
+    for (uint32_t number = 0; number < REGISTERS; number++)
+        if (stored_bits(number))
+            write_register(&up, number, image.registers[number]);
+    /* The pointer is where the last transaction left it: at the register after 76, which is 76. */
+    write_register(&down, 0x76, image.registers[0x76]);
+    wanted.pointer = 0x76;
+    struct ghixramel carried = device_from(&wanted);
+    SAME("state written upwards", &carried, &up);
+    SAME("state written downwards", &carried, &down);
+}
+
+static void orders(void)
+{
+    uint64_t random = SEED;
+    for (uint32_t i = 0; i < ORDERS; i++) {
+        about("orders of writes", i);
+        write_in_two_orders(&random);
+    }
+}
+
+void check_carried(void)
+{
+    random_images();
+    single_bits();
+    runs();
+    orders();
+}

@@ -1,0 +1,37 @@
+#include "refused.h"
+
+#include "guarded.h"
+
+#include <libc.h>
+
+uint32_t step_refusal(const struct ghixramel *device, uint32_t kind, uint64_t argument)
+{
+    struct ghixramel stepped = *device;
+    uint8_t answer[2] = {0};
+    return guarded_step(&stepped, kind, argument, answer);
+}
+
+uint32_t drives_refusal(const struct ghixramel *device)
+{
+    uint64_t drives[2] = {0};
+    return guarded_drives(device, drives);
+}
+
+uint32_t int_refusal(const struct ghixramel *device)
+{
+    uint8_t asserted[1] = {0};
+    return guarded_int(device, asserted);
+}
+
+uint32_t show_refusal(const struct ghixramel *device, uint32_t number)
+{
+    uint8_t shown[1] = {0};
+    return guarded_show(device, number, shown);
+}
+
+uint32_t to_image_refusal(const struct ghixramel *device)
+{
+    struct ghixramel_image image;
+    memset(&image, 0x99, sizeof image);
+    return guarded_to_image(device, &image);
+}
