@@ -15,8 +15,8 @@ use Rattle.lines.proofs.Laws.{rest as tail}
 use Rattle.word_bus.specs.Packed.{partWord}
 use Rattle.tracing.specs.Tracing.{Session, traced, sessionOf, Kept, Says}
 use Rattle.tracing.proofs.Laws.{says-as, traced-short}
-use Rattle.logs.specs.Pieces.{Reading, Given, readingOf, grown, answerOf, ended, andThen, given, takenOf, firstGiven, Gives, Ends}
-use Rattle.logs.proofs.Laws.{given-first, line-take, end-none, end-line}
+use Rattle.logs.specs.Pieces.{Reading, Given, readingOf, grown, answerOf, ended, andThen, given, takenOf, firstGiven, heldAfter, Gives, Ends}
+use Rattle.logs.proofs.Laws.{given-first, overlaid-nothing, line-take, end-none, end-line}
 
 -- the first line of a piece, or all of it
 module _ (r : Reading) (piece : List ℕ) (n : ℕ) (found : n ≡ newlineAt piece) where
@@ -116,29 +116,30 @@ empty (b ∷ s) h = absurd (omega arith)
 pub taken-less : (rest : List ℕ) (taken : ℕ) → 0 < length rest → taken ≡ takenOf rest → length (take (length rest - taken) (drop taken rest)) < length rest
 taken-less rest taken some e = omega (arith, ap length (tail taken rest), length-drop taken rest, taken-some rest some)
 
--- where the loop stands: what is left by writing the answers of the rest is what is left by writing those of the piece
-pub record Onward (x₀ : Reading) (words₀ piece out₀ : List ℕ) (at : ℕ) (out rest words held : List ℕ) (len end : ℕ) : Type 0 where
+-- where the loop stands: what is left by writing the answers of the rest is what is left by writing those of the piece, and so is what is held
+pub record Onward (words₀ held₀ : List ℕ) (len₀ : ℕ) (piece out₀ : List ℕ) (at : ℕ) (out rest words held : List ℕ) (len end : ℕ) : Type 0 where
   pub small : len ≤ 33
   pub whole : length held ≡ 33
   pub kept : Kept words
   pub untouched : eqb (getD words partWord 0) 0 ≡ false → words ≡ words₀
   pub long : length out ≡ length out₀
   pub room : end + 20 * length rest + 6 ≤ length out
-  pub writes : {last : ℕ} {left : List ℕ} → Wrote out end (given (readingOf words held len) rest .text) last left → Wrote out₀ at (given x₀ piece .text) last left
-  pub goes-to : given (readingOf words held len) rest .after ≡ given x₀ piece .after
+  pub writes : {last : ℕ} {left : List ℕ} → Wrote out end (given (readingOf words held len) rest .text) last left → Wrote out₀ at (given (readingOf words₀ held₀ len₀) piece .text) last left
+  pub goes-to : given (readingOf words held len) rest .after ≡ given (readingOf words₀ held₀ len₀) piece .after
+  pub holds : heldAfter held len [] rest ≡ heldAfter held₀ len₀ [] piece
 
 begun-small : (words held : List ℕ) (len : ℕ) → len ≤ 33 → length (readingOf words held len .begun) ≤ 33
 begun-small words held len h = omega (arith, length-take len held)
 
 module _ {piece out₀ : List ℕ} {at : ℕ} where
   pub onward-start : (words held : List ℕ) (len : ℕ) → len ≤ 33 → length held ≡ 33 → Kept words → at + 20 * length piece + 6 ≤ length out₀
-      → Onward (readingOf words held len) words piece out₀ at out₀ piece words held len at
-  onward-start words held len h whole kept room = record { small = h; whole = whole; kept = kept; untouched = λ h. refl; long = refl; room = room; writes = λ w. w; goes-to = refl }
+      → Onward words held len piece out₀ at out₀ piece words held len at
+  onward-start words held len h whole kept room = record { small = h; whole = whole; kept = kept; untouched = λ h. refl; long = refl; room = room; writes = λ w. w; goes-to = refl; holds = refl }
 
-  module _ {x₀ : Reading} {words₀ out rest words held : List ℕ} {len end : ℕ} (here : Onward x₀ words₀ piece out₀ at out rest words held len end) where
+  module _ {words₀ held₀ out rest words held : List ℕ} {len₀ len end : ℕ} (here : Onward words₀ held₀ len₀ piece out₀ at out rest words held len end) where
     pub onward-line : 0 < length rest → {out′ words′ held′ : List ℕ} {len′ end′ taken : ℕ} → Gives (firstGiven (readingOf words held len) rest) words out end end′ out′ words′ held′ len′ → taken ≡ takenOf rest
-        → Onward x₀ words₀ piece out₀ at out′ (take (length rest - taken) (drop taken rest)) words′ held′ len′ end′
-    onward-line some {out′} {words′} {held′} {len′} {end′} {taken} g k =
+        → heldAfter held′ len′ [] (drop taken rest) ≡ heldAfter held len [] rest → Onward words₀ held₀ len₀ piece out₀ at out′ (take (length rest - taken) (drop taken rest)) words′ held′ len′ end′
+    onward-line some {out′} {words′} {held′} {len′} {end′} {taken} g k h =
         let x : Reading = readingOf words held len in
         let first : Given = firstGiven x rest in
         let x′ : Reading = readingOf words′ held′ len′ in
@@ -156,18 +157,23 @@ module _ {piece out₀ : List ℕ} {at : ℕ} where
           room = omega (arith, ap length e, length-drop (takenOf rest) rest, taken-some rest some, first-short x rest, g .wrote .ends, wrote-length (g .wrote), here .room);
           writes = λ w. here .writes (wrote-as (sym (ap (λ (y : Given). y .text) all)) (wrote-both (g .wrote) w));
           goes-to = sym (ap (λ (y : Given). y .after) all) ∙ here .goes-to;
+          holds = ap (heldAfter held′ len′ []) (tail taken rest) ∙ h ∙ here .holds;
         }
 
-    pub onward-done : length rest ≤ 0 → Gives (given x₀ piece) words₀ out₀ at end out words held len
-    unfolding given
+    pub onward-done : length rest ≤ 0 → Gives (given (readingOf words₀ held₀ len₀) piece) words₀ out₀ at end out words held len
+        × (end ≤ length out) × (held ≡ heldAfter held₀ len₀ [] piece)
+    unfolding given heldAfter
     onward-done none =
         let x : Reading = readingOf words held len in
-        let e : rest ≡ [] = empty rest none in
-        record {
-          wrote = here .writes (wrote-as (sym (ap (λ (y : List ℕ). given x y .text) e)) (wrote-nothing out end));
-          goes-on = sym (ap (λ (y : List ℕ). given x y .after) e) ∙ here .goes-to;
-          small = here .small;
-          whole = here .whole;
-          kept = here .kept;
-          untouched = here .untouched;
-        }
+        let e : rest ≡ [] = empty rest none in (
+          record {
+            wrote = here .writes (wrote-as (sym (ap (λ (y : List ℕ). given x y .text) e)) (wrote-nothing out end));
+            goes-on = sym (ap (λ (y : List ℕ). given x y .after) e) ∙ here .goes-to;
+            small = here .small;
+            whole = here .whole;
+            kept = here .kept;
+            untouched = here .untouched;
+          },
+          omega (arith, here .room),
+          sym (overlaid-nothing held len (here .small) (here .whole)) ∙ sym (ap (heldAfter held len []) e) ∙ here .holds,
+        )

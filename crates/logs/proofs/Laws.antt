@@ -2,16 +2,17 @@
 use mathlib.Core.Path.{_≡_, refl, ap, sym, _∙_}
 use mathlib.Core.Bool.{Bool, true, false, cond}
 use mathlib.Core.List.{List, [], _∷_, _++_, append-assoc, append-nil}
-use Prim.Native.Nat.{ℕ, suc, _+_, _<_, _≤_}
+use Prim.Native.Nat.{ℕ, suc, _+_, _-_, _<_, _≤_}
+use native.Mathlib.Numerals.{add-one}
 use native.Mathlib.Omega.{arith}
-use borrow.Author.Tests.{eq-eqb, ne-eqb, lt-ltb, ltb-true, ltb-false}
-use lib.Dec.{eqb, ltb}
-use lib.ListN.{length, take, drop, length-take}
+use borrow.Author.Tests.{eq-eqb, ne-eqb, lt-ltb, le-ltb, ltb-true, ltb-false}
+use lib.Dec.{eqb, ltb, leb·suc-suc}
+use lib.ListN.{length, take, drop, length-take, take-append-drop, drop-of-length-le}
 use lib.Seq.{drop-length, take-all, length-take-le}
 use Rattle.pieces.specs.Pieces.{newlineAt}
 use Rattle.pieces.proofs.Laws.{take-again}
 use Rattle.lines.specs.Lines.{lineOf}
-use Rattle.logs.specs.Pieces.{Reading, Given, grown, ended, andThen, given, takenOf, firstGiven, atEnd}
+use Rattle.logs.specs.Pieces.{Reading, Given, grown, ended, andThen, given, takenOf, firstGiven, overlaid, heldAtEnd, heldAfter, atEnd}
 
 grown-twice : (r : Reading) (s t : List ℕ) → grown (grown r s) t ≡ grown r (s ++ t)
 grown-twice r s t =
@@ -72,6 +73,46 @@ given-first r piece small = go (ltb (newlineAt piece) (length piece)) refl
     go false e =
         given-none r piece small (ltb-false (newlineAt piece) (length piece) e)
         ∙ ap (λ (x : List ℕ). given (grown r piece) x) (sym (drop-length piece))
+
+-- nothing added leaves the held bytes as they are
+pub overlaid-nothing : (held : List ℕ) (len : ℕ) → len ≤ 33 → length held ≡ 33 → overlaid held len [] ≡ held
+unfolding overlaid
+overlaid-nothing held len small whole =
+    let e : take 33 (take len held ++ []) ≡ take len held =
+    ap (take 33) (append-nil (take len held)) ∙ take-all 33 (take len held) (omega (arith, length-take len held)) in
+    ap (λ (s : List ℕ). s ++ drop (length s) held) e
+    ∙ ap (λ (n : ℕ). take len held ++ drop n held) (length-take-le len held (omega arith)) ∙ take-append-drop len held
+
+-- the held bytes after a piece, by its first line, whose newline is at n, or by all of a piece with no newline
+module _ (held : List ℕ) (len : ℕ) where
+  abbrev heldBy : (n : ℕ) → (part piece : List ℕ) → List ℕ
+  heldBy n part piece =
+      cond (ltb n (length piece)) (heldAfter (heldAtEnd held len (part ++ take n piece)) 0 [] (drop (suc n) piece)) (overlaid held len (part ++ piece))
+
+  held-first : (part piece : List ℕ) → heldAfter held len part piece ≡ heldBy (newlineAt piece) part piece
+  unfolding heldAfter newlineAt
+  held-first part [] = ap (overlaid held len) (sym (append-nil part))
+  held-first part (b ∷ piece) = go (eqb b 0x0a) (held-first (part ++ (b ∷ [])) piece)
+    where
+      go : (t : Bool) → heldAfter held len (part ++ (b ∷ [])) piece ≡ heldBy (newlineAt piece) (part ++ (b ∷ [])) piece
+          → cond t (heldAfter (heldAtEnd held len part) 0 [] piece) (heldAfter held len (part ++ (b ∷ [])) piece)
+          ≡ heldBy (cond t 0 (suc (newlineAt piece))) part (b ∷ piece)
+      go true later = simp (append-nil part, lt-ltb 0 (suc (length piece)) (omega arith))
+      go false later = later ∙ simp (append-assoc part (b ∷ []) piece, append-assoc part (b ∷ []) (take (newlineAt piece) piece), leb·suc-suc (suc (newlineAt piece)) (length piece))
+
+  module _ (piece : List ℕ) (n : ℕ) (found : n ≡ newlineAt piece) {left : List ℕ} where
+    pub none-holds : length piece ≤ n → {end : ℕ} → end ≤ 33 → length left ≡ 33 → left ≡ overlaid held len piece
+        → heldAfter left end [] (drop n piece) ≡ heldAfter held len [] piece
+    unfolding heldAfter
+    none-holds all {end} small whole e =
+        ap (heldAfter left end []) (drop-of-length-le piece all) ∙ overlaid-nothing left end small whole ∙ e
+        ∙ sym (held-first [] piece ∙ rw (le-ltb (newlineAt piece) (length piece) (omega arith)) refl)
+
+    pub line-holds : n < length piece → left ≡ heldAtEnd held len (take (n - 0) piece) → heldAfter left 0 [] (drop (n + 1) piece) ≡ heldAfter held len [] piece
+    line-holds inside e =
+        let m : n - 0 ≡ n = omega arith in
+        ap (λ (x : List ℕ). heldAfter x 0 [] (drop (n + 1) piece)) (e ∙ ap (λ (k : ℕ). heldAtEnd held len (take k piece)) m)
+        ∙ sym (held-first [] piece ∙ rw (sym found, lt-ltb n (length piece) inside, add-one n) refl)
 
 -- of a line over 32 bytes the first 33 say as much as all of it
 pub line-take : (s : List ℕ) → lineOf (take 33 s) ≡ lineOf s

@@ -4,7 +4,7 @@ use mathlib.Core.Bool.{false, cond}
 use mathlib.Core.List.{List, [], _∷_, _++_}
 use Prim.Native.Nat.{ℕ, _+_, _≤_}
 use lib.Dec.{eqb, ltb}
-use lib.ListN.{length, getD, take}
+use lib.ListN.{length, getD, take, drop}
 use Rattle.text.specs.Text.{Wrote}
 use Rattle.pieces.specs.Pieces.{newlineAt}
 use Rattle.lines.specs.Lines.{lineOf}
@@ -58,6 +58,19 @@ takenOf piece = cond (ltb (newlineAt piece) (length piece)) (newlineAt piece + 1
 unfoldable pub firstGiven : Reading → (piece : List ℕ) → Given
 firstGiven r piece =
     cond (ltb (newlineAt piece) (length piece)) (ended (grown r (take (newlineAt piece) piece))) (record { text = []; after = grown r piece })
+
+-- the held bytes after a part is added to the first len of them: as much of it as there is room for; the bytes past it stay
+unfoldable pub overlaid : (held : List ℕ) → (len : ℕ) → (part : List ℕ) → List ℕ
+overlaid held len part = let kept : List ℕ = take 33 (take len held ++ part) in kept ++ drop (length kept) held
+
+-- the held bytes after a line that ends with this part of a piece: one that lies whole in the piece is read where it lies, and leaves them alone
+unfoldable pub heldAtEnd : (held : List ℕ) → (len : ℕ) → (part : List ℕ) → List ℕ
+heldAtEnd held len part = cond (eqb len 0) held (overlaid held len part)
+
+-- the held bytes after a piece, of which the line that has begun has taken this part so far
+unfoldable pub heldAfter : (held : List ℕ) → (len : ℕ) → (part piece : List ℕ) → List ℕ
+heldAfter held len part [] = overlaid held len part
+heldAfter held len part (b ∷ piece) = cond (eqb b 0x0a) (heldAfter (heldAtEnd held len part) 0 [] piece) (heldAfter held len (part ++ (b ∷ [])) piece)
 
 -- the answers written from at on, and the words, the held bytes and how many of them count after them; where there is still no device, the words are as they were
 pub record Gives (g : Given) (words₀ : List ℕ) (out : List ℕ) (at end : ℕ) (left words held : List ℕ) (len : ℕ) : Type 0 where

@@ -1,12 +1,12 @@
 // A whole log in pieces of any size, in bounded memory.
 ghost use mathlib.Core.Path.{_≡_};
-ghost use mathlib.Core.List.{List};
+ghost use mathlib.Core.List.{List, []};
 ghost use Prim.Native.Nat.{ℕ, _+_, _*_, _≤_};
-ghost use lib.ListN.{length};
+ghost use lib.ListN.{length, drop};
 ghost use Rattle.text.specs.Text.{Wrote};
 ghost use Rattle.tracing.specs.Tracing.{Kept, Says};
 ghost use Rattle.logs.specs.Logs.{header};
-ghost use Rattle.logs.specs.Pieces.{readingOf, opened, grown, answerOf, given, takenOf, firstGiven, Gives, Ends};
+ghost use Rattle.logs.specs.Pieces.{readingOf, opened, grown, answerOf, given, takenOf, firstGiven, overlaid, heldAtEnd, heldAfter, Gives, Ends};
 
 // How many bytes of the line that has begun are held, and where the answers end.
 pub struct Fed {
@@ -18,7 +18,7 @@ pub struct Fed {
 fn grow(held: &mut [u8; 33], len: usize, part: &[u8]) -> usize
     requires { ⌜ len ≤ 33 ⌝ }
     ensures { λ y. ⌜ ((words : List ℕ) → readingOf words (now (held .exit)) y ≡ grown (readingOf words (now (held .entry)) len) (now (part .entry)))
-        × (length (now (held .exit)) ≡ 33) × (y ≤ 33) ⌝ }
+        × (length (now (held .exit)) ≡ 33) × (y ≤ 33) × (now (held .exit) ≡ overlaid (now (held .entry)) len (now (part .entry))) ⌝ }
 {
     pieces::keep(held, len, part)
 }
@@ -34,7 +34,7 @@ fn joined_line(
 ) -> usize
     requires { ⌜ Kept (now words) × (len ≤ 33) × (length (now held) ≡ 33) × (at + 26 ≤ length (now out)) ⌝ }
     ensures { λ end. ⌜ Says (answerOf (grown (readingOf (now (words .entry)) (now (held .entry)) len) (now (part .entry)))) (now (words .entry)) (now (out .entry)) at end (now (out .exit)) (now (words .exit))
-        × (length (now (held .exit)) ≡ 33) ⌝ }
+        × (length (now (held .exit)) ≡ 33) × (now (held .exit) ≡ overlaid (now (held .entry)) len (now (part .entry))) ⌝ }
 {
     let all = grow(held, len, part);
     let bytes = *held;
@@ -52,7 +52,7 @@ fn end_line(
 ) -> usize
     requires { ⌜ Kept (now words) × (len ≤ 33) × (length (now held) ≡ 33) × (at + 26 ≤ length (now out)) ⌝ }
     ensures { λ end. ⌜ Says (answerOf (grown (readingOf (now (words .entry)) (now (held .entry)) len) (now (part .entry)))) (now (words .entry)) (now (out .entry)) at end (now (out .exit)) (now (words .exit))
-        × (length (now (held .exit)) ≡ 33) ⌝ }
+        × (length (now (held .exit)) ≡ 33) × (now (held .exit) ≡ heldAtEnd (now (held .entry)) len (now (part .entry))) ⌝ }
 {
     if len == 0 {
         return tracing::answer_line(words, part, out, at);
@@ -78,7 +78,8 @@ fn first_line(
 ) -> Took
     requires { ⌜ Kept (now words) × (len ≤ 33) × (length (now held) ≡ 33) × (at + 26 ≤ length (now out)) ⌝ }
     ensures { λ t. ⌜ Gives (firstGiven (readingOf (now (words .entry)) (now (held .entry)) len) (now (piece .entry))) (now (words .entry)) (now (out .entry)) at (t .end) (now (out .exit)) (now (words .exit)) (now (held .exit)) (t .len)
-        × (t .taken ≡ takenOf (now (piece .entry))) ⌝ }
+        × (t .taken ≡ takenOf (now (piece .entry)))
+        × (heldAfter (now (held .exit)) (t .len) [] (drop (t .taken) (now (piece .entry))) ≡ heldAfter (now (held .entry)) len [] (now (piece .entry))) ⌝ }
 {
     let newline = pieces::newline_at(piece);
     if piece.len() <= newline {
@@ -108,7 +109,7 @@ pub fn feed(
 ) -> Fed
     requires { ⌜ Kept (now words) × (len ≤ 33) × (length (now held) ≡ 33) × (at + 20 * length (now piece) + 6 ≤ length (now out)) ⌝ }
     ensures { λ f. ⌜ Gives (given (readingOf (now (words .entry)) (now (held .entry)) len) (now (piece .entry))) (now (words .entry)) (now (out .entry)) at (f .end) (now (out .exit)) (now (words .exit)) (now (held .exit)) (f .len)
-        × (f .end ≤ length (now (out .exit))) ⌝ }
+        × (f .end ≤ length (now (out .exit))) × (now (held .exit) ≡ heldAfter (now (held .entry)) len [] (now (piece .entry))) ⌝ }
 {
     let mut rest = piece;
     let mut count = len;

@@ -7,7 +7,7 @@ use native.Mathlib.Numerals.{add-one}
 use native.Mathlib.Omega.{arith}
 use borrow.Author.Tests.{eq-eqb, ne-eqb, ltb-true, ltb-false}
 use lib.Dec.{ltb}
-use lib.ListN.{length, take, drop, getD, length-append}
+use lib.ListN.{length, take, drop, getD, length-append, take-append-drop}
 use lib.Seq.{drop-cons, take-all, take-at, drop-at, take-append-add, length-take-le, sets-eq}
 use Rattle.text.specs.Text.{Wrote}
 use Rattle.text.proofs.Laws.{wrote-as, wrote-length}
@@ -86,7 +86,15 @@ take-again zero s t = refl
 take-again (suc n) [] t = refl
 take-again (suc n) (b ∷ s) t = ap (λ (x : List ℕ). b ∷ x) (take-again n s t)
 
--- what is kept, where the memory's length is known
+-- what is kept, and the whole memory then, where its length is known
 pub kept-most : {held part left : List ℕ} {len end : ℕ} (most : ℕ) → length held ≡ most → Kept held len part end left
     → (take end left ≡ take most (take len held ++ part)) × (end ≤ most)
-kept-most {held} {part} {left} {len} most all k = (k .kept ∙ ap (λ (n : ℕ). take n (take len held ++ part)) all, omega (arith, k .small))
+    × (left ≡ take most (take len held ++ part) ++ drop (length (take most (take len held ++ part))) held)
+kept-most {held} {part} {left} {len} {end} most all k =
+    let front : take end left ≡ take most (take len held ++ part) = k .kept ∙ ap (λ (n : ℕ). take n (take len held ++ part)) all in
+    let n : end ≡ length (take end left) = sym (length-take-le end left (omega (arith, k .small, k .long))) in (
+      front,
+      omega (arith, k .small),
+      sym (take-append-drop end left) ∙ ap (λ (x : List ℕ). take end left ++ x) (k .past ∙ ap (λ (x : ℕ). drop x held) n)
+          ∙ ap (λ (x : List ℕ). x ++ drop (length x) held) front,
+    )

@@ -1,4 +1,7 @@
 use borrow.Author.Needs.{needs}
+use borrow.Author.Tests.{eq-eqb, ne-eqb}
+use mathlib.Core.Path.{refl}
+use Rattle.logs.specs.Pieces.{heldAtEnd}
 use Rattle.tracing.proofs.Laws.{says-as}
 use Rattle.logs.proofs.Feeding.{line-whole}
 use Rattle.logs.proofs.end_line.Statement.{statement}
@@ -11,11 +14,12 @@ same-length : tie.Need-same-length
 same-length c = search needs
 
 returns : tie.Need-returns
+unfolding heldAtEnd
 returns c =
     let p = c .before .before in
     let t = p .before .before .before in
     let s = t .before .before .before in
-    (says-as (line-whole (s .args .words .now) (s .args .held .now) (s .args .len) (t .if1 .taken) (s .args .part .now)) (p .answer-line .ensures), s .pre .2)
+    (says-as (line-whole (s .args .words .now) (s .args .held .now) (s .args .len) (t .if1 .taken) (s .args .part .now)) (p .answer-line .ensures), s .pre .2, rw (eq-eqb (s .args .len) 0 (t .if1 .taken)) refl)
 
 joined-line-requires : tie.Need-joined-line-requires
 joined-line-requires c κs = search needs
@@ -24,7 +28,11 @@ same-length-2 : tie.Need-same-length-2
 same-length-2 c = search needs
 
 returns-2 : tie.Need-returns-2
-returns-2 c = c .before .before .joined-line .ensures
+unfolding heldAtEnd
+returns-2 c =
+    let j = c .before .before in
+    let e = j .before .before .before .before in
+    (j .joined-line .ensures .0, j .joined-line .ensures .1, rw (ne-eqb _ 0 (e .if1 .left)) (j .joined-line .ensures .2))
 
 pub end-line-spec : {M : Type 1} → statement M
 end-line-spec = tie.close (tie.spec answer-line-requires same-length returns joined-line-requires same-length-2 returns-2)

@@ -1,13 +1,12 @@
 use borrow.Author.Needs.{needs}
 use native.Mathlib.Omega.{arith}
 use lib.ListN.{length}
-use Rattle.logs.specs.Pieces.{readingOf}
 use Rattle.logs.proofs.Feeding.{Onward, onward-start, onward-line, onward-done, taken-some, taken-less}
 use Rattle.logs.proofs.feed.Statement.{statement}
 use Rattle.logs.proofs.feed.Tie as tie
 
 abbrev Inv-loop : tie.InvT-loop
-Inv-loop words₀ held₀ len piece out₀ at rest₀ count₀ end₀ words held out rest count end = Onward (readingOf words₀ held₀ len) words₀ piece out₀ at out rest words held count end
+Inv-loop words₀ held₀ len piece out₀ at rest₀ count₀ end₀ words held out rest count end = Onward words₀ held₀ len piece out₀ at out rest words held count end
 
 abbrev μ-loop : tie.MeasureT-loop
 μ-loop words₀ held₀ len piece out₀ at rest₀ count₀ end₀ words held out rest count end = length rest
@@ -44,15 +43,13 @@ loop-again : tie.Need-loop-again Inv-loop μ-loop
 loop-again c =
     let f = c .before .before .before in
     let i = f .before .before .before .before in
-    onward-line (i .before .loop .inv) (i .loop-test .taken) (f .first-line .ensures .0) (f .first-line .ensures .1)
+    onward-line (i .before .loop .inv) (i .loop-test .taken) (f .first-line .ensures .0) (f .first-line .ensures .1) (f .first-line .ensures .2)
 
 same-length : tie.Need-same-length Inv-loop μ-loop
 same-length c = search needs
 
 returns : tie.Need-returns Inv-loop μ-loop
-returns c =
-    let here = c .before .loop .inv in
-    (onward-done here (c .loop-test .left), omega (arith, here .room))
+returns c = onward-done (c .before .loop .inv) (c .loop-test .left)
 
 pub feed-spec : {M : Type 1} → statement M
 feed-spec = tie.close (tie.spec Inv-loop μ-loop loop-holds first-line-requires sub-rest part-rest-start part-rest-end loop-less loop-again same-length returns)

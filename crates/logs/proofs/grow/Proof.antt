@@ -5,6 +5,7 @@ use Prim.Native.Nat.{ℕ}
 use lib.ListN.{length}
 use Rattle.pieces.proofs.Laws.{kept-most}
 use Rattle.tracing.specs.Tracing.{sessionOf}
+use Rattle.logs.specs.Pieces.{overlaid}
 use Rattle.logs.proofs.grow.Statement.{statement}
 use Rattle.logs.proofs.grow.Tie as tie
 
@@ -12,12 +13,13 @@ keep-requires : tie.Need-keep-requires
 keep-requires c κs = search needs
 
 returns : tie.Need-returns
+unfolding overlaid
 returns c =
     let k = c .keep in
     let s = c .before .before .before in
     let all : length (s .args .held .now) ≡ 33 = search needs in
     let kept = kept-most 33 all (k .ensures) in
-    (λ words. ap (λ (x : List ℕ). record { session = sessionOf words; begun = x }) (kept .0), k .ensures .long ∙ all, kept .1)
+    (λ words. ap (λ (x : List ℕ). record { session = sessionOf words; begun = x }) (kept .0), k .ensures .long ∙ all, kept .1, kept .2)
 
 pub grow-spec : {M : Type 1} → statement M
 grow-spec = tie.close (tie.spec keep-requires returns)

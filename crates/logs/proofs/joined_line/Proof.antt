@@ -30,7 +30,7 @@ returns c =
     let p = c .before .before in
     let g = p .before .before .before .before .before .before in
     let x = g .before .before .before .before .args in
-    (says-as (line-joined (x .words .now) (x .held .now) (x .len) (g .grow .result) _ (x .part .now) (g .grow .ensures .0 (x .words .now))) (p .answer-line .ensures), g .grow .ensures .1)
+    (says-as (line-joined (x .words .now) (x .held .now) (x .len) (g .grow .result) _ (x .part .now) (g .grow .ensures .0 (x .words .now))) (p .answer-line .ensures), g .grow .ensures .1, g .grow .ensures .3)
 
 pub joined-line-spec : {M : Type 1} → statement M
 joined-line-spec = tie.close (tie.spec grow-requires sub-answer-line part-answer-line-start part-answer-line-end answer-line-requires same-length returns)
