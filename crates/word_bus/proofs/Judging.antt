@@ -191,16 +191,6 @@ module _ (c : ℕ) (w : List ℕ) (kind arg : ℕ) where
         ∙ refused-same (partOf c) (stateIn (partOf c) w) kind arg n (sym (ap (λ (o : Outcome). o .answer) (l .outcome)) ∙ e));
   }
 
--- what the step of the sister says where the words name a part that is not the first
-pub other-part : (c : ℕ) (w w' : List ℕ) (kind arg : ℕ) (a : Answer) → getD w 27 0 ≡ c → (c ≡ 0 → ⊥) → Steps 1 w w' kind arg a → Steps c w w' kind arg a
-other-part zero w w' kind arg a e z s = absurd (z refl)
-other-part (suc zero) w w' kind arg a e z s = s
-other-part (suc (suc c)) w w' kind arg a e z s = record {
-  taken = λ k. absurd (let h : suc (suc c) < 2 = k .known-part in omega arith);
-  broken = λ y. s .broken (λ k. let q : getD w 27 0 ≡ 1 = k .part-is in omega (arith, e));
-  refused = s .refused;
-}
-
 -- ---- the image test and the pointer's row together
 pub bounded-of : (c : ℕ) (w : List ℕ) → Packed c w → Bounded c w
 bounded-of c w k = record {

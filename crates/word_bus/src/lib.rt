@@ -16,7 +16,6 @@ ghost use Rattle.word_bus.specs.Packed.{stateIn, answerAt, unionTo, Pack
 use bus::Answer;
 use words::BUS;
 use words::CHOICE;
-use words::LEVEL;
 use words::PART;
 use words::POINTER;
 
@@ -134,7 +133,8 @@ fn byte_filling(words: &mut [u64; 28], row: u32, value: u8) -> u32
         → Leaves c (now (words .exit)) (answerAt a) (byteIn (partOf c) Filling (stateIn (partOf c) (now (words .entry))) value)) ⌝ }
 {
     word_writes::write_register(words, row, value);
-    words[POINTER] = rows::successor(row);
+    let next = rows::successor(row);
+    words[POINTER] = next;
     ACK
 }
 
@@ -380,14 +380,4 @@ fn step34(words: &mut [u64; 28], kind: u32, arg: u64) -> u32
         return command(words, wanted, arg);
     }
     event(words, 0x3_ffff_ffff, row, kind, arg)
-}
-
-// One event of the part that the words name.
-pub fn step(words: &mut [u64; 28], kind: u32, arg: u64) -> u32
-    ensures { λ a. ⌜ Steps (getD (now (words .entry)) 27 0) (now (words .entry)) (now (words .exit)) kind arg (answerAt a) ⌝ }
-{
-    if words[PART] == 0 {
-        return step24(words, kind, arg);
-    }
-    step34(words, kind, arg)
 }
