@@ -2,13 +2,14 @@
 ghost use mathlib.Core.Path.{_≡_};
 ghost use Rattle.map.specs.Map.{part24, defaults};
 ghost use Rattle.bus.specs.Device.{out};
-ghost use Rattle.refusals.specs.Refusals.{imageFits, stepped};
-ghost use Rattle.refusals.specs.PowerOn.{MadeOf};
+ghost use Rattle.refusals.specs.Refusals.{stepped};
+ghost use Rattle.refusals.specs.PowerOn.{makingRefused, MadeOf};
+ghost use Rattle.word_images.specs.Images.{Packs};
 ghost use Rattle.device.specs.Held.{stateIn};
 ghost use Rattle.device.specs.Asked.{lowOf, highOf, lineOf, shownOf};
 use bus::Answer;
-use bus::Rest;
 use pins::Sets;
+use word_device::PINS;
 
 // The state of the device: one byte for each command number beside the pin sets, the pointer, the bus state and the address choice.
 pub struct Device {
@@ -49,6 +50,19 @@ pub struct Shown {
     pub byte: u8,
 }
 
+// What refuses to make a device: its number, 0 for none.
+fn making_refusal(choice: u8, levels: u64) -> u8
+    ensures { λ n. ⌜ n ≡ makingRefused part24 choice levels ⌝ }
+{
+    if 3 < choice {
+        return 2;
+    }
+    if PINS < levels {
+        return 2;
+    }
+    0
+}
+
 impl Device {
     // the most writes that a plan may have
     pub const WRITE_BOUND: usize = 16;
@@ -71,7 +85,7 @@ impl Device {
     pub fn power_on(choice: u8, levels: u64) -> Made
         ensures { λ m. ⌜ MadeOf part24 choice levels (m .refusal) (stateIn (m .device)) ⌝ }
     {
-        let refusal = refusing::making_refusal(choice, levels);
+        let refusal = making_refusal(choice, levels);
         let file = Self::reset_values();
         let sets = Sets {
             level: levels,
@@ -89,27 +103,30 @@ impl Device {
         Made { refusal, device }
     }
 
+    // The words of the image, if it may stand: what refusal 3 asks.
+    fn pack(self, words: &mut [u64; 28]) -> bool
+        ensures { λ fits. ⌜ Packs 0 (stateIn self) fits (now (words .entry)) (now (words .exit)) ⌝ }
+    {
+        let file = self.file;
+        let pointer = self.pointer as u64;
+        let bus = self.bus as u64;
+        let choice = self.choice as u64;
+        word_images::pack(words, 0, &file, self.sets, pointer, bus, choice)
+    }
+
     // One event: the image is packed, the words are stepped, and what they hold then is unpacked.
     pub fn step(self, kind: u32, arg: u64) -> Stepped
         ensures { λ s. ⌜ out (s .answer) (stateIn (s .device)) ≡ stepped part24 (stateIn self) kind arg ⌝ }
     {
-        if !self.fits() {
+        let mut words = [0u64; 28];
+        if !self.pack(&mut words) {
             return Stepped {
                 answer: Answer::Refused(3),
                 device: self,
             };
         }
-        let mut file = self.file;
-        let sets = self.sets;
-        let rest = Rest {
-            sets,
-            pointer: self.pointer,
-            bus: self.bus,
-            choice: self.choice,
-        };
-        let mut words = [0u64; 28];
-        word_images::pack(&mut words, 0, &file, rest);
         let answer = word_device::event(&mut words, kind, arg);
+        let mut file = self.file;
         let after = word_images::unpack(&words, &mut file);
         let sets = after.sets;
         let device = Device {
@@ -122,66 +139,51 @@ impl Device {
         Stepped { answer, device }
     }
 
-    // Whether the image may stand: what refusal 3 asks.
-    fn fits(self) -> bool
-        ensures { λ t. ⌜ t ≡ imageFits part24 (stateIn self) ⌝ }
-    {
-        let file = self.file;
-        let sets = self.sets;
-        let rest = Rest {
-            sets,
-            pointer: self.pointer,
-            bus: self.bus,
-            choice: self.choice,
-        };
-        refusing::image_fits(&file, rest)
-    }
-
     // The pins driven low.
     pub fn low(self) -> Driven
         ensures { λ a. ⌜ a ≡ lowOf part24 (stateIn self) ⌝ }
     {
-        if self.fits() {
-            let file = self.file;
-            let pins = views::low(&file);
-            return Driven { refusal: 0, pins };
+        let mut words = [0u64; 28];
+        if !self.pack(&mut words) {
+            return Driven {
+                refusal: 3,
+                pins: 0,
+            };
         }
-        Driven {
-            refusal: 3,
-            pins: 0,
-        }
+        let pins = word_views::low(&words, PINS);
+        Driven { refusal: 0, pins }
     }
 
     // The pins driven high.
     pub fn high(self) -> Driven
         ensures { λ a. ⌜ a ≡ highOf part24 (stateIn self) ⌝ }
     {
-        if self.fits() {
-            let file = self.file;
-            let pins = views::high(&file);
-            return Driven { refusal: 0, pins };
+        let mut words = [0u64; 28];
+        if !self.pack(&mut words) {
+            return Driven {
+                refusal: 3,
+                pins: 0,
+            };
         }
-        Driven {
-            refusal: 3,
-            pins: 0,
-        }
+        let pins = word_views::high(&words);
+        Driven { refusal: 0, pins }
     }
 
     // Whether INT is asserted. Refused it counts as asserted: nobody is to take a refusal for quiet.
     pub fn int(self) -> Line
         ensures { λ a. ⌜ a ≡ lineOf part24 (stateIn self) ⌝ }
     {
-        if self.fits() {
-            let file = self.file;
-            let asserted = views::int(&file, self.sets);
+        let mut words = [0u64; 28];
+        if !self.pack(&mut words) {
             return Line {
-                refusal: 0,
-                asserted,
+                refusal: 3,
+                asserted: true,
             };
         }
+        let asserted = word_views::int(&words);
         Line {
-            refusal: 3,
-            asserted: true,
+            refusal: 0,
+            asserted,
         }
     }
 
@@ -189,20 +191,27 @@ impl Device {
     pub fn show(self, n: u8) -> Shown
         ensures { λ a. ⌜ a ≡ shownOf part24 (stateIn self) n ⌝ }
     {
-        if !self.fits() {
+        let mut words = [0u64; 28];
+        if !self.pack(&mut words) {
             return Shown {
                 refusal: 3,
                 byte: 0,
             };
         }
-        if lookup::is_reserved(n) {
+        if 127 < n {
             return Shown {
                 refusal: 2,
                 byte: 0,
             };
         }
-        let file = self.file;
-        let byte = fetches::show(&file, self.sets, n);
+        let row = rows::row24(n);
+        if row == 0 {
+            return Shown {
+                refusal: 2,
+                byte: 0,
+            };
+        }
+        let byte = word_views::show(&words, row);
         Shown { refusal: 0, byte }
     }
 }

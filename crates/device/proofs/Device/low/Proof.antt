@@ -1,22 +1,23 @@
 use borrow.Author.Needs.{needs}
-use mathlib.Core.Path.{sym, ap, _∙_}
+use mathlib.Core.Path.{refl, ap, _∙_}
+use borrow.Author.Tests.{not-true, not-false}
+use Rattle.map.specs.Map.{part24}
+use Rattle.registers.specs.Registers.{drivenLow}
+use Rattle.bus.specs.Device.{State}
 use Rattle.device.specs.Asked.{driven}
+use Rattle.device.proofs.Asking.{refused, asked}
 use Rattle.device.proofs.Device.low.Statement.{statement}
 use Rattle.device.proofs.Device.low.Tie as tie
 
-fits-requires : tie.Need-fits-requires
-fits-requires c κs = search needs
-
-low-requires : tie.Need-low-requires
-low-requires c κs = search needs
-
 returns : tie.Need-returns
-returns c =
-    let b = c .before .before .before in
-    ap (driven 0) (c .low .ensures (b .before .before .args .self .sets)) ∙ simp (sym (b .before .fits2 .ensures) ∙ b .if1 .taken)
+returns c = refused (c .before .pack .ensures) _ _ (not-true _ (c .if1 .taken))
 
 returns-2 : tie.Need-returns-2
-returns-2 c = simp (sym (c .before .fits2 .ensures) ∙ c .if1 .left)
+returns-2 c =
+    let e = c .before .before in
+    let p = e .before .pack .ensures in
+    let fits = not-false _ (e .if1 .left) in
+    ap (driven 0) (c .low .ensures 0 refl) ∙ asked p (λ (s : State). driven 0 (drivenLow part24 (s .regs))) _ fits
 
 pub low-spec : {M : Type 1} → statement M
-low-spec = tie.close (tie.spec fits-requires low-requires returns returns-2)
+low-spec = tie.close (tie.spec (λ c κs. search needs) returns (λ c κs. search needs) returns-2)

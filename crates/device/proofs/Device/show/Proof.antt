@@ -1,36 +1,53 @@
 use borrow.Author.Needs.{needs}
 use mathlib.Core.Path.{sym, ap, _∙_}
-use borrow.Author.Tests.{not-true, not-false}
+use native.Mathlib.Omega.{arith}
+use borrow.Author.Tests.{not-true, not-false, ne-eqb, eq-eqb}
+use Rattle.map.specs.Map.{part24}
+use Rattle.registers.specs.Registers.{shown}
+use Rattle.bus.specs.Device.{State}
+use Rattle.rows.proofs.Taken.{word-there, row-zero}
 use Rattle.device.specs.Asked.{byte}
-use Rattle.refusals.proofs.Images.{known-small}
+use Rattle.device.proofs.Asking.{its-image, refused, asked, over}
 use Rattle.device.proofs.Device.show.Statement.{statement}
 use Rattle.device.proofs.Device.show.Tie as tie
 
-fits-requires : tie.Need-fits-requires
-fits-requires c κs = search needs
-
 returns : tie.Need-returns
-returns c = simp (sym (c .before .fits2 .ensures) ∙ not-true _ (c .if1 .taken))
-
-is-reserved-requires : tie.Need-is-reserved-requires
-is-reserved-requires c κs = search needs
+returns c = refused (c .before .pack .ensures) _ _ (not-true _ (c .if1 .taken))
 
 returns-2 : tie.Need-returns-2
 returns-2 c =
-    let b = c .before .before in
-    simp (sym (b .before .fits2 .ensures) ∙ not-false _ (b .if1 .left), sym (c .before .is-reserved .ensures) ∙ c .if2 .taken)
-
-show-requires : tie.Need-show-requires
-show-requires c κs =
-    let r = c .before .before in
-    known-small _ (sym (r .before .is-reserved .ensures) ∙ r .if2 .left)
+    let e = c .before in
+    simp (its-image (e .before .pack .ensures) (not-false _ (e .if1 .left)), over _ (c .if2 .taken))
 
 returns-3 : tie.Need-returns-3
 returns-3 c =
-    let r = c .before .before .before in
-    let b = r .before .before in
-    ap (byte 0) (c .show .ensures)
-    ∙ simp (sym (b .before .fits2 .ensures) ∙ not-false _ (b .if1 .left), sym (r .before .is-reserved .ensures) ∙ r .if2 .left)
+    let r = c .before in
+    let e = r .before .before in
+    let zero = row-zero _ 0 _ (search needs) (r .row24 .ensures) in
+    simp (its-image (e .before .pack .ensures) (not-false _ (e .if1 .left)), sym zero ∙ eq-eqb _ 0 (c .if3 .taken))
+
+show-requires : tie.Need-show-requires
+show-requires c κs = let r = c .before .before in omega (arith, word-there _ 0 _ (search needs) (r .row24 .ensures))
+
+returns-4 : tie.Need-returns-4
+returns-4 c =
+    let n = c .before .before in
+    let r = n .before in
+    let e = r .before .before in
+    let p = e .before .pack .ensures in
+    let x = e .before .before .before .args .n in
+    let known = sym (row-zero _ 0 x (search needs) (r .row24 .ensures)) ∙ ne-eqb _ 0 (n .if3 .left) in
+    let fits = not-false _ (e .if1 .left) in
+    ap (byte 0) (c .show .ensures 0 x known (r .row24 .ensures) (p .packed fits .0 .fit)) ∙ asked p (λ (s : State). byte 0 (shown part24 (s .regs) x)) (byte 3 0) fits ∙ simp known
 
 pub show-spec : {M : Type 1} → statement M
-show-spec = tie.close (tie.spec fits-requires returns is-reserved-requires returns-2 show-requires returns-3)
+show-spec =
+    tie.close
+    (tie.spec
+    (λ c κs. search needs)
+    returns
+    returns-2
+    (λ c κs. search needs)
+    returns-3
+    show-requires
+    returns-4)
