@@ -8,10 +8,6 @@ use Rattle.map.specs.Map.{Part}
 use Rattle.bus.specs.Device.{State, Outcome, busAt, out, goes, byteIn, fetchIn, step}
 use Rattle.bus.specs.Device.Bus.{Deaf}
 use Rattle.bus.specs.Device.Event.{ByteSent, ByteFetched}
-use Rattle.bus.specs.Held.{stateOf}
-use Rattle.bus.specs.declared.Out.{Out}
-use Rattle.bus.specs.declared.Rest.{Rest}
-use Rattle.bus.specs.declared.Answer.{Answer}
 use Rattle.bus.specs.declared.Answer.the-variants.{Nak, Byte}
 
 pub same-state : {a b : State} → a .regs ≡ b .regs → a .pointer ≡ b .pointer → a .bus ≡ b .bus → a .choice ≡ b .choice → a ≡ b
@@ -65,7 +61,3 @@ module _ (p : Part) (s : State) where
 
 pub same-outcome : {a b : Outcome} → a .answer ≡ b .answer → a .after ≡ b .after → a ≡ b
 same-outcome answer after = λ j. record { answer = answer j; after = after j }
-
--- an answer beside a state that was moved to another bus state
-pub told : (file : List ℕ) {o : Out} {y z : Rest} (a : Answer) → o ≡ record { answer = a; rest = y } → y ≡ z → out (o .answer) (stateOf file (o .rest)) ≡ out a (stateOf file z)
-told file a e q = ap (λ (o : Out). out (o .answer) (stateOf file (o .rest))) e ∙ ap (λ (y : Rest). out a (stateOf file y)) q

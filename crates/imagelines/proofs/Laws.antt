@@ -1,5 +1,5 @@
--- A line that has begun. Assumes nothing.
-use mathlib.Core.Path.{_≡_, refl, ap, _∙_}
+-- A line that has begun, and the image after the step that a line asks. Assumes nothing.
+use mathlib.Core.Path.{_≡_, refl, sym, ap, _∙_}
 use mathlib.Core.Bool.{Bool, true, false}
 use mathlib.Core.List.{List, _++_}
 use Prim.Native.Nat.{ℕ, _+_, _-_, _<_, _≤_}
@@ -8,14 +8,22 @@ use borrow.Author.Tests.{ltb-true, ltb-false}
 use lib.Dec.{ltb}
 use lib.ListN.{length, take}
 use lib.Seq.{take-all, length-take-le}
+use Rattle.map.specs.Map.{part24}
+use Rattle.bus.specs.Device.{State, Outcome, out}
+use Rattle.bus.specs.Answers.{refusalNumber}
+use Rattle.bus.specs.declared.Answer.{Answer}
+use Rattle.refusals.specs.Refusals.{imageFits, stepped}
+use Rattle.refusals.proofs.Images.{broken}
+use Rattle.demands.proofs.Keeps.{image-of, well-formed, stepped-keeps}
 use Rattle.text.specs.Text.{Wrote}
 use Rattle.text.proofs.Laws.{wrote-as}
+use Rattle.fields.specs.Fields.{bytesAt}
 use Rattle.fields.proofs.Reading.{other-length}
 use Rattle.pieces.specs.Pieces.{Kept}
 use Rattle.pieces.proofs.Laws.{kept-most, take-again}
 use Rattle.imagelines.specs.declared.Line.{Line}
 use Rattle.imagelines.specs.Begun.{Holds}
-use Rattle.images.specs.Images.{probeText}
+use Rattle.images.specs.Images.{imageIn, kindIn, argumentIn, probeText}
 
 -- of a line over 359 bytes the first 360 say as much as all of it
 probe-take : (text : List ℕ) → probeText (take 360 text) ≡ probeText text
@@ -41,3 +49,16 @@ pub held-answer : (line : Line) {out left : List ℕ} {at end : ℕ} → Wrote o
 held-answer line w text h =
     let e : line .len - 0 ≡ line .len = omega arith in
     wrote-as (ap probeText (ap (λ (k : ℕ). take k (line .held)) e ∙ h .kept) ∙ probe-take text) w
+
+-- a step that is not refused leaves an image that fits
+pub step-fits : (line : List ℕ) {a : Answer} {s : State} → out a s ≡ stepped part24 (imageIn line) (kindIn line) (argumentIn line) → refusalNumber a ≡ 0 → imageFits part24 s ≡ true
+unfolding bytesAt
+step-fits line {a} {s} e z = go (imageFits part24 (imageIn line)) refl
+  where
+    go : (t : Bool) → imageFits part24 (imageIn line) ≡ t → imageFits part24 s ≡ true
+    go true q =
+        ap (λ (o : Outcome). imageFits part24 (o .after)) e
+        ∙ image-of _ (stepped-keeps (imageIn line) (well-formed (imageIn line) q refl) (kindIn line) (argumentIn line) .sound)
+    go false q =
+        let r : refusalNumber a ≡ 3 = ap (λ (o : Outcome). refusalNumber (o .answer)) (e ∙ sym (broken (imageIn line) (kindIn line) (argumentIn line) q)) in
+        absurd (omega (arith, z, r))

@@ -1,6 +1,6 @@
 -- The texts of images and answers. Assumes nothing.
 use mathlib.Core.Path.{_≡_, refl, ap, sym, _∙_}
-use mathlib.Core.Bool.{Bool}
+use mathlib.Core.Bool.{Bool, true}
 use mathlib.Core.List.{List, [], _∷_, _++_}
 use Prim.Native.Nat.{ℕ, _+_, _-_, _≤_}
 use native.Mathlib.Omega.{arith}
@@ -9,13 +9,19 @@ use lib.Seq.{sets-eq, take-append-le}
 use types.Run.{OneOf}
 use denote.Enum.Declared.{tagOf}
 use Rattle.bus.proofs.Answer.{the-type}
+use Rattle.map.specs.Map.{part24}
+use Rattle.registers.specs.Registers.{drivenLow, drivenHigh, intAsserted}
+use Rattle.bus.specs.Answers.{refusalNumber}
 use Rattle.bus.specs.declared.Answer.{Answer}
 use Rattle.bus.specs.declared.Answer.the-variants.{Nothing, Ack, Nak, Byte, Refused}
 use Rattle.text.specs.Text.{hexText, Wrote}
 use Rattle.text.proofs.Laws.{wrote-as, wrote-both}
 use Rattle.answers.specs.Answers.{answerWord, columns, lineEnd, answerLine, shownLine}
-use Rattle.answers.proofs.Laws.{answered, line-short}
+use Rattle.answers.proofs.Laws.{answered, line-short, told-line}
 use Rattle.bus.specs.Device.{State, out as outcome}
+use Rattle.refusals.specs.Refusals.{imageFits}
+use Rattle.words.specs.Words.{coreIn, Fit}
+use Rattle.word_images.specs.Images.{Packs}
 use Rattle.fields.specs.Fields.{widths, bytesText, fieldsText}
 use Rattle.fieldtexts.proofs.Writing.{fields-both}
 use Rattle.images.specs.Images.{imageText, unended, probeLine}
@@ -53,6 +59,23 @@ module _ (answer : Answer) (int : Bool) (low high : ℕ) {out left : List ℕ} {
       ap (λ (k : ℕ). take k left) e
       ∙ ap (take (length text - 1)) (line .holds ∙ sets-eq text out 0 (omega (arith, line-short answer int low high)))
       ∙ take-append-le (length text - 1) text (drop (0 + length text) out) (omega arith)
+
+-- ---- an answer by the words that the image was packed into: a refusal shows nothing of them
+module _ {s : State} {fits : Bool} {v w : List ℕ} (p : Packs 0 s fits v w) (int : Bool) (low high : ℕ) (i : Fit part24 w → int ≡ intAsserted part24 (coreIn part24 w))
+    (l : low ≡ drivenLow part24 (coreIn part24 w)) (h : Fit part24 w → high ≡ drivenHigh part24 (coreIn part24 w)) where
+  fitting-line : (a : Answer) → imageFits part24 s ≡ true → answerLine a int low high ≡ shownLine (outcome a s)
+  fitting-line a e =
+      let k = p .packed (p .judged ∙ e) in
+      told-line a s int low high (i (k .0 .fit) ∙ ap (λ (x : State). intAsserted part24 (x .regs)) (k .1)) (l ∙ ap (λ (x : State). drivenLow part24 (x .regs)) (k .1))
+      (h (k .0 .fit) ∙ ap (λ (x : State). drivenHigh part24 (x .regs)) (k .1))
+
+  pub words-line : (a : Answer) → (refusalNumber a ≡ 0 → imageFits part24 s ≡ true) → answerLine a int low high ≡ shownLine (outcome a s)
+  unfolding answerLine shownLine
+  words-line Nothing f = fitting-line Nothing (f refl)
+  words-line Ack f = fitting-line Ack (f refl)
+  words-line Nak f = fitting-line Nak (f refl)
+  words-line (Byte b) f = fitting-line (Byte b) (f refl)
+  words-line (Refused n) f = refl
 
 -- ---- the answer
 module _ (answer : Answer) (s : State) {out middle left : List ℕ} {at end last : ℕ} (told : Wrote out at (unended (shownLine (outcome answer s))) end middle) where

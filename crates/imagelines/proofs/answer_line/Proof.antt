@@ -8,6 +8,7 @@ use Rattle.text.proofs.Laws.{wrote-as}
 use Rattle.answers.proofs.Laws.{line-short}
 use Rattle.fields.proofs.Reading.{readable-long}
 use Rattle.images.proofs.Laws.{unreadable-text, probed-text}
+use Rattle.imagelines.proofs.Laws.{step-fits}
 use Rattle.imagelines.proofs.answer_line.Statement.{statement}
 use Rattle.imagelines.proofs.answer_line.Tie as tie
 
@@ -32,7 +33,7 @@ step-in-requires : tie.Need-step-in-requires
 step-in-requires c κs = readable-long _ (sym (c .before .is-readable .ensures) ∙ not-false _ (c .if1 .left))
 
 put-outcome-requires : tie.Need-put-outcome-requires
-put-outcome-requires c κs = search needs
+put-outcome-requires c κs = (step-fits _ (c .before .before .step-in .ensures), search needs)
 
 same-length-2 : tie.Need-same-length-2
 same-length-2 c = search needs
