@@ -1,7 +1,7 @@
 -- Any number of data bytes over the bus are register writes one after the other, any number of fetches show the registers one after the other: from any well-formed
 -- state, in any bus state. Assumes nothing.
 use mathlib.Core.Path.{_≡_, refl, sym, ap, _∙_}
-use mathlib.Core.Bool.{Bool, true, false}
+use mathlib.Core.Bool.{true, false}
 use mathlib.Core.List.{List, [], _∷_}
 use Prim.Native.Nat.{ℕ, zero, suc, _+_, _<_}
 use native.Mathlib.Omega.{arith}

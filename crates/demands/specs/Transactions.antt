@@ -1,6 +1,6 @@
 -- Whole transactions on the bus.
 use mathlib.Core.Bool.{Bool, true, false}
-use mathlib.Core.List.{List, [], _∷_, _++_}
+use mathlib.Core.List.{List, [], _∷_}
 use Prim.Native.Nat.{ℕ, zero, suc, _+_, _*_, _<_}
 use Rattle.bits.specs.Bits.{val}
 use Rattle.map.specs.Map.{Part, next}

@@ -26,7 +26,7 @@ use Rattle.promises.specs.declared.Planned.{Planned}
 use Rattle.words.specs.Words.{fileOf, setsIn}
 use Rattle.word_bus.specs.Packed.{stateIn, Packed, Steps}
 use Rattle.word_images.specs.Images.{Packs}
-use Rattle.host_words.specs.Host.{toldAs, Told, Made, Seen, Shown, imageIn, FromImage, ToImage, writesAfter, plannedAs, countIn}
+use Rattle.host_words.specs.Host.{toldAs, Told, Made, Seen, Shown, FromImage, ToImage, writesAfter, plannedAs, countIn}
 
 -- ---- one event
 module _ (w w' told told' : List ℕ) (kind arg number : ℕ) where

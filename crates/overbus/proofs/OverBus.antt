@@ -22,7 +22,7 @@ use Rattle.demands.specs.Transactions.{START, sent, toWrite, writeOver, written
 use Rattle.demands.proofs.Keeps.{WellFormed, run-keeps}
 use Rattle.demands.proofs.Transacting.{on, ended, start, to-write, filling, command, fills, data-byte, bus-writes, bus-writes-answers}
 use Rattle.quiet.specs.Settings.{Settings, Write}
-use Rattle.quiet.specs.Quiet.{Still, QuietOn, Quiet, Formed, writes, afterFirst, isPlanned, Listed, settingsOf, driveAt, inputAt, statusAt}
+use Rattle.quiet.specs.Quiet.{Still, Quiet, Formed, writes, afterFirst, isPlanned, Listed, settingsOf, driveAt, inputAt, statusAt}
 use Rattle.overbus.specs.OverBus.{overBus, afterEvents, allTaken, QuietOverBus}
 use Rattle.quiet.proofs.Lift.{tens}
 

@@ -12,7 +12,7 @@ use Rattle.bits.proofs.Decide.{clash}
 use Rattle.quiet.specs.Settings.{shape24, Settings, Write}
 use Rattle.quiet.specs.Order.{Good, Sound, Orderly, blocked}
 use Rattle.quiet.specs.Route.{planOf}
-use Rattle.quiet.specs.Quiet.{Quiet, Listed, settingsOf}
+use Rattle.quiet.specs.Quiet.{Quiet, Listed}
 use Rattle.quiet.proofs.Theorems.{orderly, unmoved}
 use Rattle.quiet.proofs.Lift.{listed-of, others-stay, all-change}
 use Rattle.quiet.proofs.Exactly.{none-on, plan-quiet}

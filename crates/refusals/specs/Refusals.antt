@@ -38,10 +38,3 @@ unfoldable pub stepped : Part → State → (kind arg : ℕ) → Outcome
 stepped p s kind arg = cond (eqb (refusal p s kind arg) 0) (step p s (eventOf kind arg)) (out (Refused (refusal p s kind arg)) s)
 
 -- ---- questions: what a device drives, whether INT is asserted, the byte of a register
--- 3: a broken image is asked
-abbrev pub viewRefused : Part → State → ℕ
-viewRefused p s = cond (imageFits p s) 0 3
-
--- of a register's byte after 3 also 2: the number is reserved or over 7Fh
-abbrev pub showRefused : Part → State → (n : ℕ) → ℕ
-showRefused p s n = cond (imageFits p s) (cond (reserved p n) 2 0) 3

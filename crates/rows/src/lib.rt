@@ -19,19 +19,9 @@ pub const LATCH: u32 = 5;
 
 pub const MASK: u32 = 6;
 
-pub const PORT_KIND: u32 = 7;
-
 pub const EDGE: u32 = 8;
 
 pub const CLEAR: u32 = 9;
-
-pub const OUTPUT: u32 = 10;
-
-pub const POLARITY: u32 = 11;
-
-pub const PIN_KIND: u32 = 12;
-
-pub const STORED: u32 = 13;
 
 pub const DRIVE_STRENGTH: u32 = 14;
 

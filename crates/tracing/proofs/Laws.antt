@@ -1,6 +1,6 @@
 -- What the code's cases say of a line. Assumes nothing.
 use mathlib.Core.Path.{_≡_, refl, ap, _∙_}
-use mathlib.Core.Bool.{Bool, true, false, cond}
+use mathlib.Core.Bool.{Bool, false, cond}
 use mathlib.Core.List.{List}
 use Prim.Native.Nat.{ℕ, _≤_}
 use borrow.Author.Tests.{eq-eqb, ne-eqb}
@@ -8,7 +8,7 @@ use lib.Dec.{eqb}
 use lib.ListN.{length, getD}
 use Rattle.bits.proofs.Decide.{clash}
 use Rattle.map.specs.Map.{part24}
-use Rattle.bus.specs.Device.{State, Outcome, out}
+use Rattle.bus.specs.Device.{Outcome, out}
 use Rattle.bus.specs.declared.Answer.{Answer}
 use Rattle.bus.specs.declared.Answer.the-variants.{Nothing, Refused}
 use Rattle.refusals.specs.Refusals.{stepped}

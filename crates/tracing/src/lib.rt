@@ -1,9 +1,6 @@
 // The trace program's work: one line in, one line out, on words that the caller lends.
-ghost use mathlib.Core.Path.{_≡_};
-ghost use mathlib.Core.Bool.{true};
 ghost use Prim.Native.Nat.{_+_, _^_, _<_, _≤_};
-ghost use lib.Dec.{eqb};
-ghost use lib.ListN.{length, getD};
+ghost use lib.ListN.{length};
 ghost use Rattle.map.specs.Map.{part24};
 ghost use Rattle.bus.specs.Device.{out as outcome};
 ghost use Rattle.bus.specs.declared.Answer.the-variants.{Nothing};

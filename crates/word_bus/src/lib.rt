@@ -1,16 +1,16 @@
 // The bus on words that are lent: every event with every refusal, for either part.
 ghost use mathlib.Core.Path.{_≡_};
-ghost use mathlib.Core.Bool.{Bool, true, false};
+ghost use mathlib.Core.Bool.{true, false};
 ghost use Prim.Native.Nat.{ℕ, _-_, _/_, _%_, _<_, _^_};
 ghost use lib.Bits.{bitOr};
 ghost use lib.ListN.{getD, set};
 ghost use Rattle.bits.specs.Bits.{without};
-ghost use Rattle.bus.specs.Device.{out, byteIn, fetchIn, resetted, step as stepOf};
-ghost use Rattle.bus.specs.Device.Bus.{Opened, Chosen, Filling, Sending, Call};
+ghost use Rattle.bus.specs.Device.{out, byteIn, resetted, step as stepOf};
+ghost use Rattle.bus.specs.Device.Bus.{Opened, Chosen, Filling, Call};
 ghost use Rattle.bus.specs.Device.Event.{Stop, ByteSent, ByteFetched};
 ghost use Rattle.bus.specs.declared.Answer.the-variants.{Byte};
 ghost use Rattle.refusals.specs.Refusals.{stepped};
-ghost use Rattle.words.specs.Words.{partOf, Fit};
+ghost use Rattle.words.specs.Words.{partOf};
 ghost use Rattle.rows.specs.Rows.{rowAt, wordIn};
 ghost use Rattle.word_bus.specs.Packed.{stateIn, answerAt, unionTo, Packed, Leaves, Steps, Bounded, Limits};
 use bus::Answer;

@@ -13,11 +13,9 @@ ghost use Rattle.registers.specs.Registers.{core, written};
 ghost use Rattle.words.specs.Words.{partOf, slotAt, digitAt, paired, wideOf, storedIn, setsIn, withSets, coreIn, mergedAt, mergedPair, Fit, Holds};
 ghost use Rattle.rows.specs.Rows.{ruleAt, rowAt, wordIn};
 use words::CONFIGURATION;
-use words::FALLING;
 use words::LATCH;
 use words::MASK;
 use words::RISING;
-use words::STRENGTH_HIGH;
 use words::STRENGTH_LOW;
 
 // The eight bits of a register's place in its word.

@@ -10,7 +10,6 @@ use lib.ListN.{getD}
 use Rattle.bits.specs.Bits.{bit}
 use Rattle.bits.proofs.Laws.{bit-tabulate}
 use Rattle.pins.specs.Pin.{source}
-use Rattle.pins.specs.OnePin.{Registers, registers}
 use Rattle.ports.specs.Ports.{byteOf, risingBit, fallingBit}
 use Rattle.map.specs.Map.{Part, Kind, firstOf, code}
 use Rattle.map.specs.Map.Kind.{Configuration, Latch, Mask, PortKind, Edge, Output, Polarity, PinKind}

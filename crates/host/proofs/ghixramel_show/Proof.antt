@@ -6,7 +6,7 @@ use borrow.Author.Tests.{eq-eqb, ne-eqb, not-true, not-false}
 use native.Mathlib.Nat.{mod-eq-of-lt}
 use native.Mathlib.Omega.{arith}
 use Rattle.bits.proofs.Decide.{clash}
-use Rattle.map.specs.Map.{part24, reserved}
+use Rattle.map.specs.Map.{part24}
 use Rattle.rows.specs.Rows.{rowAt}
 use Rattle.rows.proofs.Taken.{row-zero, word-there}
 use Rattle.host_words.proofs.Laws.{shown-here, no-register, not-shown, above}

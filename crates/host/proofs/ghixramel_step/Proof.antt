@@ -1,6 +1,5 @@
 use borrow.Author.Needs.{needs}
-use mathlib.Core.Path.{ap, sym, subst}
-use Rattle.bus.specs.declared.Answer.{Answer}
+use mathlib.Core.Path.{sym, subst}
 use Rattle.word_bus.specs.Packed.{Steps}
 use Rattle.host_words.proofs.Laws.{told-of}
 use Rattle.host.proofs.ghixramel_step.Statement.{statement}

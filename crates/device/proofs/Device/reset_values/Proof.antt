@@ -1,8 +1,8 @@
 use borrow.Author.Needs.{needs}
 use mathlib.Core.Path.{refl}
 use Rattle.map.specs.Map.{defaults}
-use Rattle.files.proofs.default_file.Statement.{statement}
-use Rattle.files.proofs.default_file.Tie as tie
+use Rattle.device.proofs.Device.reset_values.Statement.{statement}
+use Rattle.device.proofs.Device.reset_values.Tie as tie
 
 array-write-file : tie.Need-array-write-file
 array-write-file c = search needs
@@ -62,8 +62,8 @@ returns : tie.Need-returns
 unfolding defaults
 returns c = refl
 
-pub default-file-spec : {M : Type 1} → statement M
-default-file-spec =
+pub reset-values-spec : {M : Type 1} → statement M
+reset-values-spec =
     tie.close
     (tie.spec
     array-write-file
