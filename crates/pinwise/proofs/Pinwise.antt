@@ -19,7 +19,7 @@ use Rattle.ports.specs.Ports.{portBit, inEdge, risingBit, fallingBit}
 use Rattle.ports.proofs.Bytes.{three}
 use Rattle.map.specs.Map.{Kind, part24, firstOf, kindAt, code, stored}
 use Rattle.map.specs.Map.Kind.{Reserved, Input, Status, InputStatus, Configuration, Latch, Mask, PortKind, Edge, Clear, Output, Polarity, PinKind, Stored}
-use Rattle.map.proofs.Kinds.{ported}
+use Rattle.map.proofs.ByNumber.{ported}
 use Rattle.registers.specs.Registers.{groupBit, edgeByte, registersAt, ofPort, writtenTo, keptAs}
 
 -- number n is the q-th of the group of kind k exactly if it is of that kind, at that place

@@ -2,7 +2,7 @@
 use mathlib.Core.Path.{_≡_, refl, sym}
 use mathlib.Core.Bool.{Bool, true, false, not, _&&_, _||_}
 use Prim.Native.Nat.{ℕ, _^_, _<_}
-use borrow.Author.Tests.{lt-ltb, ne-eqb, ltb-true, not-true}
+use borrow.Author.Tests.{lt-ltb, ltb-true, not-true}
 use lib.Dec.{eqb, ltb}
 use Rattle.bits.proofs.Decide.{clash, and-left, and-right}
 use Rattle.pins.specs.AllPins.{Within}
@@ -67,10 +67,6 @@ unfolding stepped refusal
 broken s kind arg e = simp e
 
 module _ (s : State) (kind arg : ℕ) where
-  pub refused : {n : ℕ} → n ≡ refusal part24 s kind arg → (n ≡ 0 → ⊥) → out (Refused n) s ≡ stepped part24 s kind arg
-  unfolding stepped
-  refused {n} q z = simp (sym q, ne-eqb n 0 z)
-
   pub taken : refusal part24 s kind arg ≡ 0 → step part24 s (eventOf kind arg) ≡ stepped part24 s kind arg
   unfolding stepped
   taken q = simp q
@@ -97,6 +93,3 @@ module _ (s : State) (arg : ℕ) (e : imageFits part24 s ≡ true) where
 
   pub fetch-taken : arg < 2 → step part24 s (ByteFetched (eqb arg 1)) ≡ stepped part24 s 3 arg
   fetch-taken h = taken s 3 arg (sym (fetch-fits h))
-
--- ---- an event that is not refused: its argument, and what it is by its kind
-module _ (arg : ℕ) where

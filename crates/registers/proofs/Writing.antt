@@ -1,7 +1,7 @@
 -- Registers and pins are equal part by part; a rule for the pins that a register holds leaves all others. Assumes nothing.
 use mathlib.Core.Path.{_≡_, refl, sym}
 use mathlib.Core.Bool.{Bool, true, false, cond}
-use Prim.Native.Nat.{ℕ, _-_}
+use Prim.Native.Nat.{ℕ}
 use Rattle.pins.specs.Pin.{Pin, only}
 use Rattle.pins.specs.AllPins.{Within, pinAt, mapPins}
 use Rattle.pins.specs.OnePin.{Registers, Happening, pinAfter}

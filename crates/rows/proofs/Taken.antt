@@ -12,7 +12,7 @@ use Rattle.map.specs.Map.Kind.{Reserved, Input, Status, InputStatus, Configurat
 use Rattle.words.specs.Words.{partOf, slotAt, digitAt, paired}
 use Rattle.words.proofs.Moving.{still}
 use Rattle.words.proofs.Sound.{sound, single, pick, code-small, word-is}
-use Rattle.map.proofs.Kinds.{kind-is}
+use Rattle.map.proofs.ByNumber.{kind-is}
 use Rattle.rows.specs.Rows.{ruleAt, rowAt, wordIn}
 
 -- n is none of the numbers below k, as a `match` of one number an arm says it

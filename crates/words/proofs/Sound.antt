@@ -10,7 +10,7 @@ use Rattle.bits.proofs.Decide.{each, eachBool, clash}
 use mathlib.Core.List.{List, [], _∷_}
 use Rattle.map.specs.Map.{Part, Group, Kind, part24, part34, kindAt, firstOf, stored, code, roomAt, whole}
 use Rattle.map.specs.Map.Kind.{Reserved, Input, Status, InputStatus, Configuration, Latch, Mask, PortKind, Edge, Clear, Output, Polarity, PinKind, Stored}
-use Rattle.map.proofs.Kinds.{named, kind-is}
+use Rattle.map.proofs.ByNumber.{named, kind-is}
 use Rattle.words.specs.Words.{partOf, slots, slotAt, digitAt, wideOf, paired}
 
 -- where the group of a word begins
