@@ -36,5 +36,3 @@ refusal p s kind arg = cond (imageFits p s) (cond (leb kind 5) (cond (argumentFi
 -- an event given by its kind and argument: refused, the state as given; else the step
 unfoldable pub stepped : Part → State → (kind arg : ℕ) → Outcome
 stepped p s kind arg = cond (eqb (refusal p s kind arg) 0) (step p s (eventOf kind arg)) (out (Refused (refusal p s kind arg)) s)
-
--- ---- questions: what a device drives, whether INT is asserted, the byte of a register
