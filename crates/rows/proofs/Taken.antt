@@ -1,6 +1,7 @@
 -- A row taken apart has what it was put together from: computed at each number of each part. Assumes nothing.
 use mathlib.Core.Path.{_≡_, refl, sym, ap, ap₂, _∙_}
 use mathlib.Core.Bool.{Bool, true, false, cond, not, _&&_, _||_}
+use mathlib.Core.List.{List}
 use Prim.Native.Nat.{ℕ, zero, suc, _+_, _-_, _/_, _^_, _<_}
 use native.Mathlib.Omega.{arith}
 use borrow.Author.Tests.{eqb-true, eqb-false, ne-eqb, ltb-true, lt-ltb, le-ltb}
@@ -13,7 +14,7 @@ use Rattle.words.specs.Words.{partOf, slotAt, digitAt, paired}
 use Rattle.words.proofs.Moving.{still}
 use Rattle.words.proofs.Sound.{sound, single, pick, code-small, word-is}
 use Rattle.map.proofs.ByNumber.{kind-is}
-use Rattle.rows.specs.Rows.{ruleAt, rowAt, wordIn}
+use Rattle.rows.specs.Rows.{ruleAt, rowAt, wordIn, Numbered, Known}
 
 -- n is none of the numbers below k, as a `match` of one number an arm says it
 abbrev Apart : ℕ → ℕ → Type 0
@@ -126,6 +127,13 @@ module _ (row part n : ℕ) (known : reserved (partOf part) n ≡ false) (e : ro
 
   pub existing-of : row / 2 ^ 24 ≡ 2 ^ roomAt (partOf part) n - 1
   existing-of = ap (λ (r : ℕ). r / 2 ^ 24) e ∙ rw known at (rows part .existings n known-small)
+
+-- the word that such a row names is among the words
+pub numbered-inside : {row : ℕ} {w : List ℕ} → Numbered row w → wordIn row < 28
+numbered-inside {row} k = omega (arith, word-there row (k .part) (k .number) (k .small) (k .row-is))
+
+pub known-inside : {row : ℕ} {w : List ℕ} → Known row w → wordIn row < 28
+known-inside {row} k = omega (arith, word-there row (k .part) (k .number) (known-small row (k .part) (k .number) (k .known) (k .row-is)) (k .row-is))
 
 -- ---- what a rule says of its register
 module _ (part n : ℕ) (hn : n < 128) where

@@ -1,10 +1,12 @@
 -- What a register number means to the engine, as one number, its row: computed from the part's map.
-use mathlib.Core.Bool.{cond}
-use Prim.Native.Nat.{ℕ, _+_, _-_, _*_, _/_, _^_}
+use mathlib.Core.Path.{_≡_}
+use mathlib.Core.Bool.{false, cond}
+use mathlib.Core.List.{List}
+use Prim.Native.Nat.{ℕ, _+_, _-_, _*_, _/_, _^_, _<_}
 use lib.Bits.{bitAnd}
 use lib.Dec.{eqb}
 use Rattle.map.specs.Map.{Part, kindAt, code, reserved, next, roomAt}
-use Rattle.words.specs.Words.{slotAt, digitAt, paired, strengthWord}
+use Rattle.words.specs.Words.{partOf, slotAt, digitAt, paired, strengthWord, Fit}
 
 -- what writing and reading it does: its kind's number; 14 for drive strength, which is stored like the others but in two words
 abbrev pub ruleAt : Part → ℕ → ℕ
@@ -24,3 +26,19 @@ rowAt p n =
 -- the word that a row names, of whatever number it is
 abbrev pub wordIn : ℕ → ℕ
 wordIn row = bitAnd (row / 2 ^ 4) 31
+
+-- the row is that of some number below 128, reserved or not, of a part that the words fit
+pub record Numbered (row : ℕ) (w : List ℕ) : Type 0 where
+  pub part : ℕ
+  pub number : ℕ
+  pub small : number < 128
+  pub row-is : row ≡ rowAt (partOf part) number
+  pub fit : Fit (partOf part) w
+
+-- the row is that of a known register, one whose number is not reserved, of a part that the words fit
+pub record Known (row : ℕ) (w : List ℕ) : Type 0 where
+  pub part : ℕ
+  pub number : ℕ
+  pub known : reserved (partOf part) number ≡ false
+  pub row-is : row ≡ rowAt (partOf part) number
+  pub fit : Fit (partOf part) w

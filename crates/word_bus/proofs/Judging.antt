@@ -23,8 +23,8 @@ use Rattle.words.specs.Words.{partOf, setsIn}
 use Rattle.words.proofs.Sound.{sound}
 use Rattle.words.proofs.Holding.{within}
 use Rattle.words.proofs.Fits.{same-word-of, file-of-fits}
-use Rattle.rows.specs.Rows.{rowAt, wordIn}
-use Rattle.rows.proofs.Taken.{known-small, row-zero, word-there}
+use Rattle.rows.specs.Rows.{rowAt}
+use Rattle.rows.proofs.Taken.{known-small, row-zero}
 use Rattle.word_bus.specs.Packed.{stateIn, unused, Packed, Leaves, Steps, Bounded}
 
 -- ---- an image of packed words fits
@@ -205,9 +205,6 @@ bounded-of c w k = record {
 module _ (c : ℕ) (hc : c < 2) (w : List ℕ) (b : Bounded c w) (row : ℕ) (e : row ≡ rowAt (partOf c) (getD w 21 0 % 128)) where
   pub row-there : row ≡ rowAt (partOf c) (getD w 21 0)
   row-there = let q : getD w 21 0 % 128 ≡ getD w 21 0 = mod-eq-of-lt (b .pointer-small) in e ∙ ap (rowAt (partOf c)) q
-
-  pub row-inside : wordIn row < 28
-  row-inside = omega (arith, word-there row c (getD w 21 0) (b .pointer-small) row-there)
 
   pub packed-of : (row ≡ 0 → ⊥) → Packed c w
   packed-of z = record {

@@ -12,6 +12,7 @@ use Rattle.bus.specs.declared.Answer.{Answer}
 use Rattle.bus.specs.declared.Answer.the-variants.{Nothing, Ack, Nak, Byte, Refused}
 use Rattle.refusals.specs.Refusals.{stepped}
 use Rattle.words.specs.Words.{partOf, coreIn, wideOf, portKindWord, debounceEnableWord, debounceCountWord, Fit}
+use Rattle.rows.specs.Rows.{rowAt}
 
 abbrev pub pointerWord : ℕ
 pointerWord = 21
@@ -41,6 +42,11 @@ pub record Packed (c : ℕ) (w : List ℕ) : Type 0 where
   pub bus-small : getD w busWord 0 < 8
   pub choice-small : getD w choiceWord 0 < 4
   pub part-is : getD w partWord 0 ≡ c
+
+-- the words are the packing of a well-formed image of the part that they name, and the row is that of a number of it
+pub record Standing (row number : ℕ) (w : List ℕ) : Type 0 where
+  pub packed : Packed (getD w partWord 0) w
+  pub row-is : row ≡ rowAt (partOf (getD w partWord 0)) number
 
 -- an answer as one number: its kind, and from bit 8 on the byte read or the refusal's number
 abbrev pub answerAt : ℕ → Answer

@@ -1,7 +1,7 @@
 // The bus on words that are lent: every event with every refusal, for either part.
 ghost use mathlib.Core.Path.{_≡_};
 ghost use mathlib.Core.Bool.{true, false};
-ghost use Prim.Native.Nat.{ℕ, _-_, _/_, _%_, _<_, _^_};
+ghost use Prim.Native.Nat.{ℕ, _-_, _/_, _%_, _^_};
 ghost use lib.Bits.{bitOr};
 ghost use lib.ListN.{getD, set};
 ghost use Rattle.bits.specs.Bits.{without};
@@ -11,8 +11,8 @@ ghost use Rattle.bus.specs.Device.Event.{Stop, ByteSent, ByteFetched};
 ghost use Rattle.bus.specs.declared.Answer.the-variants.{Byte};
 ghost use Rattle.refusals.specs.Refusals.{stepped};
 ghost use Rattle.words.specs.Words.{partOf};
-ghost use Rattle.rows.specs.Rows.{rowAt, wordIn};
-ghost use Rattle.word_bus.specs.Packed.{stateIn, answerAt, unionTo, Packed, Leaves, Steps, Bounded, Limits};
+ghost use Rattle.rows.specs.Rows.{rowAt};
+ghost use Rattle.word_bus.specs.Packed.{stateIn, answerAt, unionTo, Packed, Standing, Leaves, Steps, Bounded, Limits};
 use bus::Answer;
 use words::BUS;
 use words::CHOICE;
@@ -94,7 +94,7 @@ fn goes(words: &mut [u64; 28], bus: u64, answer: u32) -> u32
 
 // A byte in Opened: the address with its direction, or the general call.
 fn byte_opened(words: &mut [u64; 28], value: u8) -> u32
-    requires { ⌜ getD (now words) 23 0 < 4 ⌝ }
+    requires { ⌜ Packed (getD (now words) 27 0) (now words) ⌝ }
     ensures { λ a. ⌜ ((c : ℕ) → Packed c (now (words .entry)) → Leaves c (now (words .exit)) (answerAt a) (byteIn (partOf c) Opened (stateIn (partOf c) (now (words .entry))) value)) ⌝ }
 {
     let address = 2 * (0x20 + words[CHOICE]);
@@ -113,6 +113,7 @@ fn byte_opened(words: &mut [u64; 28], value: u8) -> u32
 
 // A byte in Chosen: the command, whose row is given.
 fn byte_chosen(words: &mut [u64; 28], wanted: u32, value: u8) -> u32
+    requires { ⌜ Standing wanted (value % 128) (now words) ⌝ }
     ensures { λ a. ⌜ ((c : ℕ) → Packed c (now (words .entry)) → wanted ≡ rowAt (partOf c) (value % 128)
         → Leaves c (now (words .exit)) (answerAt a) (byteIn (partOf c) Chosen (stateIn (partOf c) (now (words .entry))) value)) ⌝ }
 {
@@ -128,7 +129,7 @@ fn byte_chosen(words: &mut [u64; 28], wanted: u32, value: u8) -> u32
 
 // A byte in Filling: the register at the pointer, whose row is given, is written, and the pointer steps.
 fn byte_filling(words: &mut [u64; 28], row: u32, value: u8) -> u32
-    requires { ⌜ wordIn row < 28 ⌝ }
+    requires { ⌜ Standing row (getD (now words) 21 0) (now words) × (getD (now words) 22 0 ≡ 3) ⌝ }
     ensures { λ a. ⌜ ((c : ℕ) → Packed c (now (words .entry)) → getD (now (words .entry)) 22 0 ≡ 3 → row ≡ rowAt (partOf c) (getD (now (words .entry)) 21 0)
         → Leaves c (now (words .exit)) (answerAt a) (byteIn (partOf c) Filling (stateIn (partOf c) (now (words .entry))) value)) ⌝ }
 {
@@ -140,6 +141,7 @@ fn byte_filling(words: &mut [u64; 28], row: u32, value: u8) -> u32
 
 // A byte in Call: software reset, or nothing.
 fn byte_call(words: &mut [u64; 28], value: u8) -> u32
+    requires { ⌜ Packed (getD (now words) 27 0) (now words) ⌝ }
     ensures { λ a. ⌜ ((c : ℕ) → Packed c (now (words .entry)) → Leaves c (now (words .exit)) (answerAt a) (byteIn (partOf c) Call (stateIn (partOf c) (now (words .entry))) value)) ⌝ }
 {
     if value == 6 {
@@ -150,7 +152,7 @@ fn byte_call(words: &mut [u64; 28], value: u8) -> u32
 
 // A byte from the master, which is not a command.
 fn byte(words: &mut [u64; 28], row: u32, value: u8) -> u32
-    requires { ⌜ (wordIn row < 28) × (getD (now words) 23 0 < 4) ⌝ }
+    requires { ⌜ Standing row (getD (now words) 21 0) (now words) × (getD (now words) 22 0 ≡ 2 → ⊥) ⌝ }
     ensures { λ a. ⌜ ((c : ℕ) → Packed c (now (words .entry)) → (getD (now (words .entry)) 22 0 ≡ 2 → ⊥) → row ≡ rowAt (partOf c) (getD (now (words .entry)) 21 0)
         → Leaves c (now (words .exit)) (answerAt a) (stepOf (partOf c) (stateIn (partOf c) (now (words .entry))) (ByteSent value))) ⌝ }
 {
@@ -166,7 +168,7 @@ fn byte(words: &mut [u64; 28], row: u32, value: u8) -> u32
 
 // A byte fetched by the master.
 fn fetch(words: &mut [u64; 28], row: u32, acknowledged: bool) -> u32
-    requires { ⌜ wordIn row < 28 ⌝ }
+    requires { ⌜ Standing row (getD (now words) 21 0) (now words) ⌝ }
     ensures { λ a. ⌜ ((c : ℕ) → Packed c (now (words .entry)) → row ≡ rowAt (partOf c) (getD (now (words .entry)) 21 0)
         → Leaves c (now (words .exit)) (answerAt a) (stepOf (partOf c) (stateIn (partOf c) (now (words .entry))) (ByteFetched acknowledged))) ⌝ }
 {
@@ -185,6 +187,7 @@ fn fetch(words: &mut [u64; 28], row: u32, acknowledged: bool) -> u32
 
 // Any reset, of a part whose pins are these.
 fn reset(words: &mut [u64; 28], pins: u64)
+    requires { ⌜ Packed (getD (now words) 27 0) (now words) × (pins ≡ 2 ^ partOf (getD (now words) 27 0) .width - 1) ⌝ }
     ensures { λ r. ⌜ ((c : ℕ) → Packed c (now (words .entry)) → pins ≡ 2 ^ partOf c .width - 1
         → Leaves c (now (words .exit)) Answer.Nothing (out Answer.Nothing (resetted (partOf c) (stateIn (partOf c) (now (words .entry)))))) ⌝ }
 {
@@ -226,6 +229,7 @@ fn reset(words: &mut [u64; 28], pins: u64)
 
 // STOP.
 fn stop(words: &mut [u64; 28], pins: u64) -> u32
+    requires { ⌜ Packed (getD (now words) 27 0) (now words) × (pins ≡ 2 ^ partOf (getD (now words) 27 0) .width - 1) ⌝ }
     ensures { λ a. ⌜ ((c : ℕ) → Packed c (now (words .entry)) → pins ≡ 2 ^ partOf c .width - 1
         → Leaves c (now (words .exit)) (answerAt a) (stepOf (partOf c) (stateIn (partOf c) (now (words .entry))) Stop)) ⌝ }
 {
@@ -301,6 +305,7 @@ pub fn is_command(words: &[u64; 28], kind: u32) -> bool
 
 // A command on packed words, its row given.
 pub fn command(words: &mut [u64; 28], row: u32, arg: u64) -> u32
+    requires { ⌜ Standing row (arg % 128) (now words) × (getD (now words) 22 0 ≡ 2) ⌝ }
     ensures { λ a. ⌜ ((c : ℕ) → Packed c (now (words .entry)) → getD (now (words .entry)) 22 0 ≡ 2 → row ≡ rowAt (partOf c) (arg % 128)
         → Leaves c (now (words .exit)) (answerAt a) (stepped (partOf c) (stateIn (partOf c) (now (words .entry))) 2 arg)) ⌝ }
 {
@@ -312,7 +317,8 @@ pub fn command(words: &mut [u64; 28], row: u32, arg: u64) -> u32
 
 // Any other event on packed words, the row of the register at the pointer given.
 pub fn event(words: &mut [u64; 28], pins: u64, row: u32, kind: u32, arg: u64) -> u32
-    requires { ⌜ (wordIn row < 28) × (getD (now words) 23 0 < 4) ⌝ }
+    requires { ⌜ Standing row (getD (now words) 21 0) (now words) × (pins ≡ 2 ^ partOf (getD (now words) 27 0) .width - 1)
+        × (kind ≡ 2 → getD (now words) 22 0 ≡ 2 → ⊥) ⌝ }
     ensures { λ a. ⌜ ((c : ℕ) → Packed c (now (words .entry)) → pins ≡ 2 ^ partOf c .width - 1 → row ≡ rowAt (partOf c) (getD (now (words .entry)) 21 0)
         → (kind ≡ 2 → getD (now (words .entry)) 22 0 ≡ 2 → ⊥) → Leaves c (now (words .exit)) (answerAt a) (stepped (partOf c) (stateIn (partOf c) (now (words .entry))) kind arg)) ⌝ }
 {

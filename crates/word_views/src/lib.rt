@@ -9,8 +9,8 @@ ghost use Rattle.pins.specs.AllPins.{PinsOf, sourceAt};
 ghost use Rattle.pins.specs.OnePin.{inputOf, statusOf};
 ghost use Rattle.map.specs.Map.{reserved};
 ghost use Rattle.registers.specs.Registers.{shown, levelled, fetched, drivenLow, drivenHigh, intAsserted};
-ghost use Rattle.words.specs.Words.{partOf, entryOf, coreIn, wordsAt, pinIn, zipped, Fit, Holds};
-ghost use Rattle.rows.specs.Rows.{rowAt, wordIn};
+ghost use Rattle.words.specs.Words.{partOf, entryOf, coreIn, wordsAt, pinIn, zipped, Fit, PinLevels, Holds};
+ghost use Rattle.rows.specs.Rows.{rowAt, wordIn, Known};
 use pins::Sources;
 use words::CONFIGURATION;
 use words::FALLING;
@@ -146,6 +146,7 @@ pub fn show(words: &[u64; 28], row: u32) -> u8
 
 // What a fetch of the register does: an input port register settles its pins.
 pub fn settle(words: &mut [u64; 28], row: u32)
+    requires { ⌜ Known row (now words) ⌝ }
     ensures { λ r. ⌜ ((part n : ℕ) → reserved (partOf part) n ≡ false → row ≡ rowAt (partOf part) n → Fit (partOf part) (now (words .entry))
         → Holds (partOf part) (now (words .entry)) (now (words .exit)) (fetched (partOf part) (coreIn (partOf part) (now (words .entry))) n)) ⌝ }
 {
@@ -158,6 +159,7 @@ pub fn settle(words: &mut [u64; 28], row: u32)
 
 // The levels become those of new.
 pub fn set_levels(words: &mut [u64; 28], new: u64)
+    requires { ⌜ PinLevels new (now words) ⌝ }
     ensures { λ r. ⌜ ((part : ℕ) → new < 2 ^ partOf part .width → Fit (partOf part) (now (words .entry))
         → Holds (partOf part) (now (words .entry)) (now (words .exit)) (levelled (partOf part) (coreIn (partOf part) (now (words .entry))) new)) ⌝ }
 {

@@ -11,7 +11,7 @@ ghost use Rattle.ports.specs.Ports.{inPort, portBit, inEdge, risingBit, falling
 ghost use Rattle.map.specs.Map.{reserved};
 ghost use Rattle.registers.specs.Registers.{core, written};
 ghost use Rattle.words.specs.Words.{partOf, slotAt, digitAt, paired, wideOf, storedIn, setsIn, withSets, coreIn, mergedAt, mergedPair, Fit, Holds};
-ghost use Rattle.rows.specs.Rows.{ruleAt, rowAt, wordIn};
+ghost use Rattle.rows.specs.Rows.{ruleAt, rowAt, Numbered, Known};
 use words::CONFIGURATION;
 use words::LATCH;
 use words::MASK;
@@ -156,7 +156,7 @@ fn write_strength(words: &mut [u64; 28], row: u32, value: u8)
 
 // A register written: its rule says what that does.
 pub fn write_register(words: &mut [u64; 28], row: u32, value: u8)
-    requires { ⌜ wordIn row < 28 ⌝ }
+    requires { ⌜ Known row (now words) ⌝ }
     ensures { λ r. ⌜ ((part n : ℕ) → reserved (partOf part) n ≡ false → row ≡ rowAt (partOf part) n → Fit (partOf part) (now (words .entry))
         → Holds (partOf part) (now (words .entry)) (now (words .exit)) (written (partOf part) (coreIn (partOf part) (now (words .entry))) n value)) ⌝ }
 {
@@ -178,7 +178,7 @@ pub fn write_register(words: &mut [u64; 28], row: u32, value: u8)
 
 // A byte stored, and no more: what a register file holds goes into the words so.
 pub fn store(words: &mut [u64; 28], row: u32, value: u8)
-    requires { ⌜ wordIn row < 28 ⌝ }
+    requires { ⌜ Numbered row (now words) ⌝ }
     ensures { λ r. ⌜ ((part n : ℕ) → n < 128 → row ≡ rowAt (partOf part) n → Fit (partOf part) (now (words .entry))
         → Holds (partOf part) (now (words .entry)) (now (words .exit)) (core (storedIn (partOf part) (now (words .entry)) n value) (setsIn (now (words .entry))))) ⌝ }
 {

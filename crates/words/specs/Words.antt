@@ -2,7 +2,7 @@
 use mathlib.Core.Path.{_≡_}
 use mathlib.Core.Bool.{Bool, false, cond, _&&_, _||_}
 use mathlib.Core.List.{List, [], _∷_}
-use Prim.Native.Nat.{ℕ, zero, suc, _+_, _-_, _/_, _%_, _<_}
+use Prim.Native.Nat.{ℕ, zero, suc, _+_, _-_, _/_, _%_, _^_, _<_}
 use lib.Bits.{bitOr}
 use lib.Dec.{leb, ltb, eqb}
 use lib.ListN.{length, getD, set}
@@ -143,6 +143,12 @@ wideOf p s = cond (ltb s 4 || (paired s || (eqb s fallingWord || eqb s (strength
 pub record Fit (p : Part) (w : List ℕ) : Type 0 where
   pub full : length w ≡ 28
   pub clear : (s i : ℕ) → s < 19 → ltb i (wideOf p s) ≡ false → bit (getD w s 0) i ≡ false
+
+-- levels of the pins of a part that the words fit
+pub record PinLevels (new : ℕ) (w : List ℕ) : Type 0 where
+  pub part : ℕ
+  pub small : new < 2 ^ partOf part .width
+  pub fit : Fit (partOf part) w
 
 -- what a function on lent words promises: they hold these registers and pins then, they fit, and the other words stay
 pub record Holds (p : Part) (w w' : List ℕ) (after : Core) : Type 0 where

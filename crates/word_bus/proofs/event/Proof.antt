@@ -10,6 +10,7 @@ use Rattle.bus.specs.declared.Answer.the-variants.{Nothing, Refused}
 use Rattle.words.specs.Words.{partOf}
 use Rattle.word_bus.specs.Packed.{answerAt}
 use Rattle.word_bus.proofs.Left.{left-same, went, holds-left, by-rule}
+use Rattle.word_bus.proofs.Standing.{pin-levels}
 use Rattle.word_bus.proofs.Judging.{taken, wrong-argument, wrong-kind, none-of-six}
 use Rattle.word_bus.proofs.event.Statement.{statement}
 use Rattle.word_bus.proofs.event.Tie as tie
@@ -80,6 +81,18 @@ returns-10 c =
     (wrong-kind k (a .words .now) packed (a .kind) (a .arg)
     (lt-leb (a .kind) 5 (none-of-six (a .kind) (rest .0 .0 .0 .0 .0 .1) (rest .0 .0 .0 .0 .1) (rest .0 .0 .0 .1) (rest .0 .0 .1) (rest .0 .1) (rest .1))))
 
+byte-requires : tie.Need-byte-requires
+byte-requires c κs =
+    let key = c .before .before in
+    let start = key .before in
+    (start .pre .0, start .pre .2 (key .match .keys3))
+
+set-levels-requires : tie.Need-set-levels-requires
+set-levels-requires c κs =
+    let start = c .before .before .before in
+    let a = start .args in
+    pin-levels _ (a .words .now) (start .pre .0 .packed) (a .pins) (a .arg) (start .pre .1) (let h = c .before .if3 .left in omega arith)
+
 pub event-spec : {M : Type 1} → statement M
 event-spec =
     tie.close
@@ -88,11 +101,11 @@ event-spec =
     (λ c κs. search needs)
     returns
     (λ c. search needs)
-    (λ c κs. search needs)
+    byte-requires
     returns-2
     (λ c κs. search needs)
     returns-3
-    (λ c κs. search needs)
+    set-levels-requires
     (λ c κs. search needs)
     returns-4
     returns-5

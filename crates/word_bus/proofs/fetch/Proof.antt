@@ -7,9 +7,10 @@ use Rattle.bus.specs.Device.{fetchIn}
 use Rattle.bus.specs.declared.Answer.the-variants.{Byte}
 use Rattle.bus.proofs.Stepping.{same-state, same-outcome, sending, stray-fetch}
 use Rattle.words.specs.Words.{partOf}
-use Rattle.rows.proofs.Taken.{next-known}
+use Rattle.rows.proofs.Taken.{next-known, known-inside}
 use Rattle.word_bus.specs.Packed.{stateIn}
 use Rattle.word_bus.proofs.Left.{left-same, holds-bus, holds-pointer}
+use Rattle.word_bus.proofs.Standing.{known-row}
 use Rattle.word_bus.proofs.fetch.Statement.{statement}
 use Rattle.word_bus.proofs.fetch.Tie as tie
 
@@ -51,6 +52,9 @@ returns-3 c =
     (sending (partOf k) (stateIn (partOf k) (a .words .now)) (a .acknowledged) (sends .if1 .left)
     (same-outcome (ap Byte (show .show .ensures k n (packed .pointer-known) e (packed .fit))) (simp (c .before .if2 .left) refl))))
 
+show-requires : tie.Need-show-requires
+show-requires c κs = known-inside (known-row _ _ (c .before .before .before .pre))
+
 pub fetch-spec : {M : Type 1} → statement M
 fetch-spec =
     tie.close
@@ -58,7 +62,7 @@ fetch-spec =
     (λ c. search needs)
     (λ c κs. search needs)
     returns
-    (λ c κs. search needs)
+    show-requires
     (λ c κs. search needs)
     (λ c κs. search needs)
     (λ c. search needs)

@@ -9,7 +9,8 @@ use Rattle.words.specs.Words.{partOf, wideOf}
 use Rattle.refusals.specs.Refusals.{stepped}
 use Rattle.word_bus.specs.Packed.{Limits, stateIn}
 use Rattle.word_bus.proofs.Left.{by-rule}
-use Rattle.word_bus.proofs.Judging.{no-image, image, bounded-of, row-there, row-inside, packed-of, no-row}
+use Rattle.word_bus.proofs.Standing.{stands, its-pins}
+use Rattle.word_bus.proofs.Judging.{no-image, image, bounded-of, row-there, packed-of, no-row}
 use Rattle.word_bus.proofs.step24.Statement.{statement}
 use Rattle.word_bus.proofs.step24.Tie as tie
 
@@ -29,6 +30,17 @@ returns-2 c =
     let b = test .before .bounded .ensures 0 limits refl .0 (not-false _ (test .if1 .left)) in
     no-image 0 (a .words .now) (a .kind) (a .arg) (no-row 0 (omega arith) (a .words .now) b _ (c .before .row24 .ensures) (c .if2 .taken))
 
+command-requires : tie.Need-command-requires
+command-requires c κs =
+    let which = c .before .before .before in
+    let known = which .before .before in
+    let found = known .before in
+    let test = found .before .before in
+    let a = test .before .before .before .args in
+    let b = test .before .bounded .ensures 0 limits refl .0 (not-false _ (test .if1 .left)) in
+    let k = packed-of 0 (omega arith) (a .words .now) b _ (found .row24 .ensures) (known .if2 .left) in
+    (stands 0 (a .words .now) k _ _ (c .before .row242 .ensures), which .is-command .ensures .0 (c .before .before .if3 .taken) .1)
+
 returns-3 : tie.Need-returns-3
 returns-3 c =
     let which = c .before .before .before .before in
@@ -44,12 +56,17 @@ returns-3 c =
 
 event-requires : tie.Need-event-requires
 event-requires c κs =
-    let known = c .before .before .before .before in
+    let which = c .before .before in
+    let known = which .before .before in
     let found = known .before in
     let test = found .before .before in
     let a = test .before .before .before .args in
     let b = test .before .bounded .ensures 0 limits refl .0 (not-false _ (test .if1 .left)) in
-    (row-inside 0 (omega arith) (a .words .now) b _ (found .row24 .ensures), b .choice-small)
+    let k = packed-of 0 (omega arith) (a .words .now) b _ (found .row24 .ensures) (known .if2 .left) in (
+      stands 0 (a .words .now) k _ _ (row-there 0 (omega arith) (a .words .now) b _ (found .row24 .ensures)),
+      its-pins 0 (a .words .now) k _ refl,
+      which .is-command .ensures .1 (c .before .if3 .left),
+    )
 
 returns-4 : tie.Need-returns-4
 returns-4 c =
@@ -76,7 +93,7 @@ step24-spec =
     (λ c κs. search needs)
     (λ c. search needs)
     (λ c κs. search needs)
-    (λ c κs. search needs)
+    command-requires
     returns-3
     event-requires
     returns-4)

@@ -6,10 +6,17 @@ use Rattle.map.specs.Map.{part24}
 use Rattle.refusals.specs.Refusals.{stepped}
 use Rattle.word_bus.specs.Packed.{stateIn}
 use Rattle.word_bus.proofs.Left.{by-rule}
-use Rattle.word_bus.proofs.Judging.{bounded-of, row-there, row-inside}
+use Rattle.word_bus.proofs.Judging.{bounded-of, row-there}
+use Rattle.word_bus.proofs.Standing.{stands, its-pins}
 use Rattle.word_device.proofs.Answering.{answered}
 use Rattle.word_device.proofs.event.Statement.{statement}
 use Rattle.word_device.proofs.event.Tie as tie
+
+command-requires : tie.Need-command-requires
+command-requires c κs =
+    let which = c .before .before .before in
+    let s = which .before .before in
+    (stands 0 (s .args .words .now) (s .pre) _ _ (c .before .row24 .ensures), which .is-command .ensures .0 (c .before .before .if1 .taken) .1)
 
 returns : tie.Need-returns
 returns c =
@@ -23,10 +30,14 @@ returns c =
 event-requires : tie.Need-event-requires
 event-requires c κs =
     let r = c .before in
-    let which = r .before .before .before in
+    let else = r .before .before in
+    let which = else .before in
     let s = which .before .before in
-    let b = bounded-of 0 (s .args .words .now) (s .pre) in
-    (row-inside 0 (omega arith) (s .args .words .now) b _ (r .row242 .ensures), b .choice-small)
+    let b = bounded-of 0 (s .args .words .now) (s .pre) in (
+      stands 0 (s .args .words .now) (s .pre) _ _ (row-there 0 (omega arith) (s .args .words .now) b _ (r .row242 .ensures)),
+      its-pins 0 (s .args .words .now) (s .pre) _ refl,
+      which .is-command .ensures .1 (else .if1 .left),
+    )
 
 returns-2 : tie.Need-returns-2
 returns-2 c =
@@ -46,7 +57,7 @@ event-spec =
     (λ c κs. search needs)
     (λ c. search needs)
     (λ c κs. search needs)
-    (λ c κs. search needs)
+    command-requires
     (λ c κs. search needs)
     returns
     (λ c. search needs)

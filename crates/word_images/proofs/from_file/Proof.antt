@@ -2,13 +2,11 @@
 use borrow.Author.Needs.{needs}
 use mathlib.Core.Path.{_≡_, refl, ap, _∙_}
 use Prim.Native.Nat.{ℕ, _-_, _<_}
-use native.Mathlib.Omega.{arith}
 use lib.ListN.{getD}
 use Rattle.registers.specs.Registers.{Core}
 use Rattle.words.specs.Words.{partOf}
 use Rattle.words.proofs.Sound.{sound}
 use Rattle.words.proofs.Images.{Taken, all-zero, taken-none, taken-more, taken-all}
-use Rattle.rows.proofs.Taken.{word-there}
 use Rattle.word_images.proofs.from_file.Statement.{statement}
 use Rattle.word_images.proofs.from_file.Tie as tie
 
@@ -27,7 +25,13 @@ store-requires : tie.Need-store-requires Inv-loop μ-loop
 store-requires c κs =
     let test = c .before .before .before in
     let l = test .before in
-    omega (arith, word-there _ (l .before .before .before .args .part) (l .loop .n) (test .loop-test .taken) (c .row-of .ensures))
+    record {
+      part = l .before .before .before .args .part;
+      number = l .loop .n;
+      small = test .loop-test .taken;
+      row-is = c .row-of .ensures;
+      fit = l .loop .inv .0 .fit;
+    }
 
 loop-again : tie.Need-loop-again Inv-loop μ-loop
 loop-again c =

@@ -9,7 +9,7 @@ use lib.Dec.{eqb}
 use Rattle.map.specs.Map.Kind.{Edge}
 use Rattle.words.specs.Words.{partOf, paired}
 use Rattle.words.proofs.Sound.{sound}
-use Rattle.rows.proofs.Taken.{its-word, stored-by, paired-by, rule-strength, stored-rule, stored-known}
+use Rattle.rows.proofs.Taken.{its-word, stored-by, paired-by, rule-strength, stored-rule, stored-known, numbered-inside}
 use Rattle.word_writes.proofs.Wrote.{byte-kept, pair-kept, nothing-kept}
 use Rattle.word_writes.proofs.store.Statement.{statement}
 use Rattle.word_writes.proofs.store.Tie as tie
@@ -99,6 +99,12 @@ returns-5 c =
     (byte-kept p (sound part) w fit n v hn hv (facts .0) (word .word .result) es (ap paired es ∙ facts .1) _ _
     (c .before .before .port-pins .ensures part n hn e (facts .1)) (c .before .port-bits .ensures part n (stored-known part n hn (facts .0)) e (facts .1)))
 
+put-requires : tie.Need-put-requires
+put-requires c κs =
+    let word = c .before .before in
+    let start = word .before .before .before .before .before in
+    omega (arith, word .word .ensures .1, numbered-inside (start .pre))
+
 pub store-spec : {M : Type 1} → statement M
 store-spec =
     tie.close
@@ -115,7 +121,7 @@ store-spec =
     (λ c κs. search needs)
     (λ c κs. search needs)
     (λ c κs. search needs)
-    (λ c κs. search needs)
+    put-requires
     returns
     returns-2
     returns-3

@@ -17,7 +17,7 @@ use Rattle.registers.specs.Registers.{writtenTo}
 use Rattle.words.specs.Words.{partOf, paired}
 use Rattle.words.proofs.Sound.{sound}
 use Rattle.words.proofs.Holding.{within}
-use Rattle.rows.proofs.Taken.{known-small, stored-by, still-by, paired-by, its-kind, stored-rule, still-rule}
+use Rattle.rows.proofs.Taken.{known-small, stored-by, still-by, paired-by, its-kind, stored-rule, still-rule, known-inside}
 use Rattle.word_writes.proofs.Wrote.{rule-moved, only-moved, byte-wrote, nothing-wrote}
 use Rattle.word_writes.proofs.write_register.Statement.{statement}
 use Rattle.word_writes.proofs.write_register.Tie as tie
@@ -156,6 +156,11 @@ returns-8 c =
     (ap paired (c .before .word .ensures .0 part n hn e) ∙ facts .1) _ _ (b .before .before .port-pins .ensures part n hn e (facts .1))
     (b .before .port-bits .ensures part n known e (facts .1)) (still-rule part n _ hn er high (rest .0 .0 .0 .0 .0 .1) (rest .0 .0 .0 .0 .1) (rest .0 .0 .0 .1) (rest .0 .0 .1) (rest .0 .1)))
 
+put-requires : tie.Need-put-requires
+put-requires c κs =
+    let start = c .before .before .before .before .before .before .before in
+    omega (arith, c .word .ensures .1, known-inside (start .pre))
+
 pub write-register-spec : {M : Type 1} → statement M
 write-register-spec =
     tie.close
@@ -170,7 +175,7 @@ write-register-spec =
     (λ c κs. search needs)
     (λ c κs. search needs)
     (λ c κs. search needs)
-    (λ c κs. search needs)
+    put-requires
     returns
     returns-2
     returns-3
