@@ -1,4 +1,4 @@
-/* ghixramel: the PCAL6524 in software, and the planner of quiet register writes. Link with libhost.a.
+/* ghixramel: the PCAL6524 in software, and the planner of quiet register writes. Link with libghixramel.a.
  *
  * Every function gives 0, or the number of its refusal; refused, it changes nothing that it was lent. No call needs
  * a check first. Nothing is allocated and nothing is kept between calls: the state lies in the caller's memory.

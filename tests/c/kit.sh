@@ -4,7 +4,7 @@
 
 kit=$(dirname "$(dirname "$(rt doc)")")
 tools=$kit/on/$(uname -m)/toolchain
-library=target/staticlib/libhost.a
+library=target/staticlib/libghixramel.a
 
 # "${launch[@]}" PROGRAM ARGUMENTS runs a program
 launch=("$tools/lib/ld-linux-x86-64.so.2" --library-path "$tools/lib")
@@ -13,7 +13,7 @@ launch=("$tools/lib/ld-linux-x86-64.so.2" --library-path "$tools/lib")
 # the library that include/ghixramel.h describes, proved and built if it is not there or older than its sources
 need_library() {
     if [ ! -f "$library" ] || [ -n "$(find crates.txt crates -newer "$library" -print -quit)" ]; then
-        rt staticlib host </dev/null >&2 || return 1
+        rt staticlib ghixramel </dev/null >&2 || return 1
         touch "$library"
     fi
 }

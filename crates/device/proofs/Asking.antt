@@ -7,10 +7,10 @@ use borrow.Author.Tests.{le-ltb}
 use lib.Dec.{eqb}
 use Rattle.map.specs.Map.{part24, kindAt, code, reserved}
 use Rattle.map.specs.Map.Kind.{Reserved}
-use Rattle.bus.specs.Device.{State}
-use Rattle.refusals.specs.Refusals.{imageFits}
-use Rattle.word_bus.specs.Packed.{stateIn}
-use Rattle.word_images.specs.Images.{Packs}
+use Rattle.device_rules.specs.Device.{State}
+use Rattle.device_rules.specs.Refusals.{imageFits}
+use Rattle.words_bus.specs.Packed.{stateIn}
+use Rattle.words_images.specs.Images.{Packs}
 
 module _ {s : State} {fits : Bool} {v w : List ℕ} (p : Packs 0 s fits v w) where
   pub no-image : fits ≡ false → imageFits part24 s ≡ false

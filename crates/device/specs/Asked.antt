@@ -4,8 +4,8 @@ use mathlib.Core.Bool.{Bool, true, cond}
 use Prim.Native.Nat.{ℕ}
 use Rattle.map.specs.Map.{Part, reserved}
 use Rattle.registers.specs.Registers.{drivenLow, drivenHigh, intAsserted, shown}
-use Rattle.bus.specs.Device.{State}
-use Rattle.refusals.specs.Refusals.{imageFits}
+use Rattle.device_rules.specs.Device.{State}
+use Rattle.device_rules.specs.Refusals.{imageFits}
 use Rattle.device.specs.declared.Driven.{Driven}
 use Rattle.device.specs.declared.Line.{Line}
 use Rattle.device.specs.declared.Shown.{Shown}

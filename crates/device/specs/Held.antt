@@ -1,6 +1,6 @@
 -- The state that a device holds.
 use Rattle.registers.specs.Registers.{core}
-use Rattle.bus.specs.Device.{State, state}
+use Rattle.device_rules.specs.Device.{State, state}
 use Rattle.device.specs.declared.Device.{Device}
 
 -- the state that a device's fields hold: all of it

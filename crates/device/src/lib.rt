@@ -1,15 +1,15 @@
 // The device by value, as its callers have it: made, stepped and asked.
 ghost use mathlib.Core.Path.{_≡_};
 ghost use Rattle.map.specs.Map.{part24, defaults};
-ghost use Rattle.bus.specs.Device.{out};
-ghost use Rattle.refusals.specs.Refusals.{stepped};
-ghost use Rattle.refusals.specs.PowerOn.{makingRefused, MadeOf};
-ghost use Rattle.word_images.specs.Images.{Packs};
+ghost use Rattle.device_rules.specs.Device.{out};
+ghost use Rattle.device_rules.specs.Refusals.{stepped};
+ghost use Rattle.device_rules.specs.PowerOn.{makingRefused, MadeOf};
+ghost use Rattle.words_images.specs.Images.{Packs};
 ghost use Rattle.device.specs.Held.{stateIn};
 ghost use Rattle.device.specs.Asked.{lowOf, highOf, lineOf, shownOf};
-use bus::Answer;
+use device_rules::Answer;
 use pins::Sets;
-use word_device::PINS;
+use words_device::PINS;
 
 // The state of the device: one byte for each command number beside the pin sets, the pointer, the bus state and the address choice.
 pub struct Device {
@@ -130,7 +130,7 @@ impl Device {
         let pointer = self.pointer as u64;
         let bus = self.bus as u64;
         let choice = self.choice as u64;
-        word_images::pack(words, 0, &file, self.sets, pointer, bus, choice)
+        words_images::pack(words, 0, &file, self.sets, pointer, bus, choice)
     }
 
     // One event: the image is packed, the words are stepped, and what they hold then is unpacked.
@@ -144,9 +144,9 @@ impl Device {
                 device: self,
             };
         }
-        let answer = word_device::event(&mut words, kind, arg);
+        let answer = words_device::event(&mut words, kind, arg);
         let mut file = self.file;
-        let after = word_images::unpack(&words, &mut file);
+        let after = words_images::unpack(&words, &mut file);
         let sets = after.sets;
         let device = Device {
             file,
@@ -169,7 +169,7 @@ impl Device {
                 pins: 0,
             };
         }
-        let pins = word_views::low(&words, PINS);
+        let pins = words_views::low(&words, PINS);
         Driven { refusal: 0, pins }
     }
 
@@ -184,7 +184,7 @@ impl Device {
                 pins: 0,
             };
         }
-        let pins = word_views::high(&words);
+        let pins = words_views::high(&words);
         Driven { refusal: 0, pins }
     }
 
@@ -199,7 +199,7 @@ impl Device {
                 asserted: true,
             };
         }
-        let asserted = word_views::int(&words);
+        let asserted = words_views::int(&words);
         Line {
             refusal: 0,
             asserted,
@@ -223,14 +223,14 @@ impl Device {
                 byte: 0,
             };
         }
-        let row = rows::row24(n);
+        let row = words_rows::row24(n);
         if row == 0 {
             return Shown {
                 refusal: 2,
                 byte: 0,
             };
         }
-        let byte = word_views::show(&words, row);
+        let byte = words_views::show(&words, row);
         Shown { refusal: 0, byte }
     }
 }

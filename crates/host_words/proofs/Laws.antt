@@ -9,23 +9,23 @@ use lib.ListN.{length, getD}
 use Rattle.bits.proofs.Decide.{clash}
 use Rattle.map.specs.Map.{part24, reserved}
 use Rattle.registers.specs.Registers.{core, shown}
-use Rattle.bus.specs.Device.{State, Outcome, state}
-use Rattle.bus.specs.Answers.{refusalNumber}
-use Rattle.bus.specs.declared.Answer.{Answer}
-use Rattle.bus.specs.declared.Answer.the-variants.{Nothing, Ack, Nak, Byte, Refused}
-use Rattle.refusals.specs.Refusals.{imageFits}
-use Rattle.refusals.specs.PowerOn.{powerOn, makingRefused}
-use Rattle.quiet.specs.Settings.{shape24, Write}
-use Rattle.quiet.specs.Order.{blocked}
-use Rattle.quiet.specs.Route.{planOf}
-use Rattle.promises.specs.Formed.{formed}
-use Rattle.promises.specs.Answer.{answerOf, Answers}
-use Rattle.promises.specs.Answer.Answer.{refuse, give}
-use Rattle.promises.specs.Promise.{refusalOf, countOf, Promise}
-use Rattle.promises.specs.declared.Planned.{Planned}
+use Rattle.device_rules.specs.Device.{State, Outcome, state}
+use Rattle.device_rules.specs.Answers.{refusalNumber}
+use Rattle.device_rules.specs.declared.Answer.{Answer}
+use Rattle.device_rules.specs.declared.Answer.the-variants.{Nothing, Ack, Nak, Byte, Refused}
+use Rattle.device_rules.specs.Refusals.{imageFits}
+use Rattle.device_rules.specs.PowerOn.{powerOn, makingRefused}
+use Rattle.planner_quiet.specs.Settings.{shape24, Write}
+use Rattle.planner_quiet.specs.Order.{blocked}
+use Rattle.planner_quiet.specs.Route.{planOf}
+use Rattle.planner_promise.specs.Formed.{formed}
+use Rattle.planner_promise.specs.Answer.{answerOf, Answers}
+use Rattle.planner_promise.specs.Answer.Answer.{refuse, give}
+use Rattle.planner_promise.specs.Promise.{refusalOf, countOf, Promise}
+use Rattle.planner_promise.specs.declared.Planned.{Planned}
 use Rattle.words.specs.Words.{fileOf, setsIn}
-use Rattle.word_bus.specs.Packed.{stateIn, Packed, Steps}
-use Rattle.word_images.specs.Images.{Packs}
+use Rattle.words_bus.specs.Packed.{stateIn, Packed, Steps}
+use Rattle.words_images.specs.Images.{Packs}
 use Rattle.host_words.specs.Host.{toldAs, Told, Made, Seen, Shown, FromImage, ToImage, writesAfter, plannedAs, countIn}
 
 -- ---- one event

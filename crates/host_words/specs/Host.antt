@@ -7,14 +7,14 @@ use lib.Dec.{eqb}
 use lib.ListN.{getD}
 use Rattle.map.specs.Map.{part24, reserved}
 use Rattle.registers.specs.Registers.{core, drivenLow, drivenHigh, intAsserted, shown}
-use Rattle.bus.specs.Device.{State, Outcome, state}
-use Rattle.bus.specs.Answers.{answerKind, answerByte, refusalNumber}
-use Rattle.bus.specs.declared.Answer.{Answer}
-use Rattle.refusals.specs.Refusals.{imageFits, stepped}
-use Rattle.refusals.specs.PowerOn.{powerOn, makingRefused}
-use Rattle.promises.specs.Promise.{countOf}
-use Rattle.promises.specs.declared.Planned.{Planned}
-use Rattle.word_bus.specs.Packed.{stateIn, Packed}
+use Rattle.device_rules.specs.Device.{State, Outcome, state}
+use Rattle.device_rules.specs.Answers.{answerKind, answerByte, refusalNumber}
+use Rattle.device_rules.specs.declared.Answer.{Answer}
+use Rattle.device_rules.specs.Refusals.{imageFits, stepped}
+use Rattle.device_rules.specs.PowerOn.{powerOn, makingRefused}
+use Rattle.planner_promise.specs.Promise.{countOf}
+use Rattle.planner_promise.specs.declared.Planned.{Planned}
+use Rattle.words_bus.specs.Packed.{stateIn, Packed}
 
 -- the answer's kind and byte; a refusal leaves what was lent for them as it was
 abbrev pub toldAs : Answer → (lent : List ℕ) → List ℕ

@@ -1,11 +1,11 @@
 // Answers as a C host has them: as numbers.
 ghost use mathlib.Core.Path.{_≡_};
 ghost use mathlib.Core.Bool.{cond};
-ghost use Rattle.bus.specs.Answers.{refusalNumber};
-ghost use Rattle.promises.specs.Promise.{refusalOf};
+ghost use Rattle.device_rules.specs.Answers.{refusalNumber};
+ghost use Rattle.planner_promise.specs.Promise.{refusalOf};
 ghost use Rattle.host_words.specs.Host.{toldAs, writesAfter};
-use bus::Answer;
-use promises::Planned;
+use device_rules::Answer;
+use planner_promise::Planned;
 
 // An answer as its kind and its byte; a refusal as its number alone.
 pub fn tell(answer: Answer, told: &mut [u8; 2]) -> u32

@@ -1,4 +1,4 @@
 pub mod AllPins
-pub mod Rules
 pub mod Causes
 pub mod Points
+pub mod Rules

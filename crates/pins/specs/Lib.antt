@@ -1,5 +1,5 @@
-pub mod Pin
 pub mod AllPins
-pub mod OnePin
 pub mod Cause
+pub mod OnePin
+pub mod Pin
 pub mod Points

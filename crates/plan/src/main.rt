@@ -1,8 +1,8 @@
 // The service engineer's command: plan START GOAL, or lines START<tab>GOAL on standard input.
-use asks::Reading;
 use libc::STDERR_FILENO;
 use libc::STDOUT_FILENO;
-use promises::Planned;
+use plan_lines::Reading;
+use planner_promise::Planned;
 
 // A tab and a write's register and value.
 fn say_write(register: u8, value: u8) {
@@ -76,7 +76,7 @@ fn explain(start: &[u8; 10], goal: &[u8; 10]) {
 
 // The answer to one whole line.
 fn answer(r: Reading) {
-    let number = asks::line_refusal(r);
+    let number = plan_lines::line_refusal(r);
     if number != 0 {
         say_refusal(number);
         explain_setting(number);
@@ -111,7 +111,7 @@ fn take_all(r: Reading, s: &[u8]) -> Reading {
     let mut reading = r;
     let mut i = 0;
     while i < s.len() {
-        reading = asks::take(reading, s[i]);
+        reading = plan_lines::take(reading, s[i]);
         i += 1;
     }
     reading
@@ -125,13 +125,13 @@ fn from_arguments() {
         say_refusal(7);
         return;
     }
-    let first = take_all(asks::begin(), &word[..n]);
+    let first = take_all(plan_lines::begin(), &word[..n]);
     let m = os::arg(2, &mut word);
     if os::errno() != 0 {
         say_refusal(7);
         return;
     }
-    answer(take_all(asks::take(first, b'\t'), &word[..m]));
+    answer(take_all(plan_lines::take(first, b'\t'), &word[..m]));
 }
 
 // Lines that came in pieces: what is read of the present one, and whether it holds a byte.
@@ -148,10 +148,10 @@ fn answer_piece(l: Lines, piece: &[u8]) -> Lines {
     while i < piece.len() {
         if piece[i] == b'\n' {
             answer(reading);
-            reading = asks::begin();
+            reading = plan_lines::begin();
             any = false;
         } else {
-            reading = asks::take(reading, piece[i]);
+            reading = plan_lines::take(reading, piece[i]);
             any = true;
         }
         i += 1;
@@ -162,7 +162,7 @@ fn answer_piece(l: Lines, piece: &[u8]) -> Lines {
 fn from_input() {
     let mut piece = io::buffer();
     let mut lines = Lines {
-        reading: asks::begin(),
+        reading: plan_lines::begin(),
         any: false,
     };
     // a proved loop ends: it counts down from a number that no input uses up

@@ -6,11 +6,11 @@ use Rattle.pins.specs.AllPins.{mapPins, asserted}
 use Rattle.pins.specs.OnePin.{pinAfter}
 use Rattle.map.specs.Map.{kindAt, reserved, next, defaults, fitting, fileFits}
 use Rattle.registers.specs.Registers.{drivenLow, drivenHigh, intAsserted, shownAs, writtenTo, writtenAs, fetchedAs, fetched, levelled}
-use Rattle.bus.specs.Device.{resetted, byteIn, fetchIn, step}
-use Rattle.refusals.specs.Refusals.{setsFit, imageFits, refusal, stepped}
-use Rattle.refusals.specs.PowerOn.{powerOn}
-use Rattle.quiet.specs.Route.{midConfiguration, midOutput, planOf}
-use Rattle.promises.specs.Answer.{answerOf}
+use Rattle.device_rules.specs.Device.{resetted, byteIn, fetchIn, step}
+use Rattle.device_rules.specs.Refusals.{setsFit, imageFits, refusal, stepped}
+use Rattle.device_rules.specs.PowerOn.{powerOn}
+use Rattle.planner_quiet.specs.Route.{midConfiguration, midOutput, planOf}
+use Rattle.planner_promise.specs.Answer.{answerOf}
 use Rattle.points.specs.Bench.{cases, all}
 
 pub all-cases : T (all cases)

@@ -7,16 +7,16 @@ use lib.ListN.{getD, length}
 use Rattle.bits.specs.Bits.{val}
 use Rattle.map.specs.Map.{part24}
 use Rattle.registers.specs.Registers.{drivenLow, drivenHigh, intAsserted}
-use Rattle.bus.specs.Device.{Outcome, out}
-use Rattle.refusals.specs.Refusals.{stepped}
-use Rattle.bus.specs.Answers.{answerKind, answerByte}
-use Rattle.bus.specs.declared.Answer.the-variants.{Nothing}
-use Rattle.refusals.specs.PowerOn.{powerOn}
-use Rattle.demands.specs.Run.{Asked}
-use Rattle.quiet.specs.Settings.{Settings}
-use Rattle.promises.specs.Answer.{Answer, answerOf}
-use Rattle.promises.specs.Answer.Answer.{refuse, give}
-use Rattle.demands.specs.Transactions.{ask, START, STOP, sent, toWrite, writeOver, readOver, readOn}
+use Rattle.device_rules.specs.Device.{Outcome, out}
+use Rattle.device_rules.specs.Refusals.{stepped}
+use Rattle.device_rules.specs.Answers.{answerKind, answerByte}
+use Rattle.device_rules.specs.declared.Answer.the-variants.{Nothing}
+use Rattle.device_rules.specs.PowerOn.{powerOn}
+use Rattle.device_demands.specs.Run.{Asked}
+use Rattle.planner_quiet.specs.Settings.{Settings}
+use Rattle.planner_promise.specs.Answer.{Answer, answerOf}
+use Rattle.planner_promise.specs.Answer.Answer.{refuse, give}
+use Rattle.device_demands.specs.Transactions.{ask, START, STOP, sent, toWrite, writeOver, readOver, readOn}
 
 pub data Case : Type 0 where
   -- events from power-on at address choice 0 with all levels 0; one looks at the last outcome

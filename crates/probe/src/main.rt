@@ -2,8 +2,8 @@
 ghost use mathlib.Core.Path.{_≡_};
 ghost use Prim.Native.Nat.{_≤_};
 ghost use lib.ListN.{length};
-use imagelines::Line;
 use libc::STDOUT_FILENO;
+use probe_images::Line;
 
 // Writes the answers so far where there is no room for one more, and says where the next one goes.
 fn make_room(out: &[u8], end: usize) -> usize
@@ -24,19 +24,19 @@ fn answer_piece(line: Line, piece: &[u8], out: &mut [u8]) -> Line
 {
     let mut begun = line;
     let mut rest = piece;
-    let mut newline = pieces::newline_at(rest);
+    let mut newline = text_pieces::newline_at(rest);
     let mut end = 0;
     while newline < rest.len() {
-        let whole = imagelines::grow(begun, &rest[0..newline]);
+        let whole = probe_images::grow(begun, &rest[0..newline]);
         let at = make_room(&*out, end);
-        end = imagelines::answer(whole, out, at);
-        begun = imagelines::begin();
+        end = probe_images::answer(whole, out, at);
+        begun = probe_images::begin();
         let next = newline + 1;
         rest = &rest[next..];
-        newline = pieces::newline_at(rest);
+        newline = text_pieces::newline_at(rest);
     }
     io::write_all(STDOUT_FILENO, &out[0..end]);
-    imagelines::grow(begun, rest)
+    probe_images::grow(begun, rest)
 }
 
 // A last line without newline counts if it holds a byte.
@@ -44,7 +44,7 @@ fn answer_last(line: Line, out: &mut [u8])
     requires { ⌜ (line .len ≤ 360) × (length (now out) ≡ 65536) ⌝ }
 {
     if 0 < line.len {
-        let end = imagelines::answer(line, out, 0);
+        let end = probe_images::answer(line, out, 0);
         io::write_all(STDOUT_FILENO, &out[0..end]);
     }
 }
@@ -52,7 +52,7 @@ fn answer_last(line: Line, out: &mut [u8])
 fn main() {
     let mut piece = [0u8; 16384];
     let mut out = [0u8; 65536];
-    let mut line = imagelines::begin();
+    let mut line = probe_images::begin();
     // a proved loop ends: it counts down from a number that no input uses up
     let mut turns = u64::MAX;
     while 0 < turns {

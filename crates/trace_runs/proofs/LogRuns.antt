@@ -8,23 +8,23 @@ use native.Mathlib.Omega.{arith}
 use borrow.Author.Tests.{le-leb, lt-ltb, eqb-true}
 use lib.Dec.{eqb, ltb}
 use Rattle.map.specs.Map.{part24}
-use Rattle.bus.specs.Device.{State, Outcome, out}
-use Rattle.bus.specs.Answers.{refusalNumber}
-use Rattle.bus.specs.declared.Answer.the-variants.{Nothing}
-use Rattle.refusals.specs.Refusals.{argumentFits, refusal, stepped, eventOf}
-use Rattle.refusals.specs.PowerOn.{powerOn}
-use Rattle.refusals.proofs.Images.{taken}
-use Rattle.demands.specs.Run.{Asked, seenFrom, run}
-use Rattle.demands.proofs.Keeps.{WellFormed, image-of, stepped-keeps, power-on-fits}
-use Rattle.demands.proofs.Runs.{step-answers}
-use Rattle.lines.specs.Lines.{lineOf, Taken, Means}
-use Rattle.lines.specs.declared.Line.{Line}
-use Rattle.lines.specs.declared.Line.the-variants.{Device, Event, Unreadable}
-use Rattle.lines.proofs.Laws.{line-means}
-use Rattle.answers.specs.Answers.{shownLine}
-use Rattle.tracing.specs.Tracing.{Session, traced}
-use Rattle.tracing.specs.Tracing.Session.{NoDevice, With}
-use Rattle.logs.specs.Logs.{header, linesOf, answersFrom, answersOf}
+use Rattle.device_rules.specs.Device.{State, Outcome, out}
+use Rattle.device_rules.specs.Answers.{refusalNumber}
+use Rattle.device_rules.specs.declared.Answer.the-variants.{Nothing}
+use Rattle.device_rules.specs.Refusals.{argumentFits, refusal, stepped, eventOf}
+use Rattle.device_rules.specs.PowerOn.{powerOn}
+use Rattle.device_rules.proofs.Images.{taken}
+use Rattle.device_demands.specs.Run.{Asked, seenFrom, run}
+use Rattle.device_demands.proofs.Keeps.{WellFormed, image-of, stepped-keeps, power-on-fits}
+use Rattle.device_demands.proofs.Runs.{step-answers}
+use Rattle.trace_lines.specs.Lines.{lineOf, Taken, Means}
+use Rattle.trace_lines.specs.declared.Line.{Line}
+use Rattle.trace_lines.specs.declared.Line.the-variants.{Device, Event, Unreadable}
+use Rattle.trace_lines.proofs.Laws.{line-means}
+use Rattle.text_answers.specs.Answers.{shownLine}
+use Rattle.trace_session.specs.Tracing.{Session, traced}
+use Rattle.trace_session.specs.Tracing.Session.{NoDevice, With}
+use Rattle.trace_logs.specs.Logs.{header, linesOf, answersFrom, answersOf}
 use Rattle.trace_runs.specs.LogRuns.{seenLines, SayEvents, Answered, AllAnswered}
 
 -- ---- a log and a run

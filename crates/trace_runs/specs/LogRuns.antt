@@ -3,13 +3,13 @@ use mathlib.Core.Path.{_≡_}
 use mathlib.Core.List.{List, [], _∷_, _++_}
 use mathlib.Core.Logic.{_⊎_}
 use Prim.Native.Nat.{ℕ}
-use Rattle.bus.specs.Device.{Outcome}
-use Rattle.bus.specs.Answers.{refusalNumber}
-use Rattle.demands.specs.Run.{Asked, Seen}
-use Rattle.lines.specs.Lines.{lineOf}
-use Rattle.lines.specs.declared.Line.the-variants.{Event}
-use Rattle.answers.specs.Answers.{answerLine, shownLine, refusedLine}
-use Rattle.tracing.specs.Tracing.{Session, traced}
+use Rattle.device_rules.specs.Device.{Outcome}
+use Rattle.device_rules.specs.Answers.{refusalNumber}
+use Rattle.device_demands.specs.Run.{Asked, Seen}
+use Rattle.trace_lines.specs.Lines.{lineOf}
+use Rattle.trace_lines.specs.declared.Line.the-variants.{Event}
+use Rattle.text_answers.specs.Answers.{answerLine, shownLine, refusedLine}
+use Rattle.trace_session.specs.Tracing.{Session, traced}
 
 -- what is seen, as lines: answer, INT, pins driven low, pins driven high
 unfoldable pub seenLines : List Seen → List ℕ

@@ -1,5 +1,5 @@
 use native.Mathlib.Omega.{arith}
-use Rattle.refusals.proofs.Making.{choice-over, levels-over, none-over}
+use Rattle.device_rules.proofs.Making.{choice-over, levels-over, none-over}
 use Rattle.device.proofs.making_refusal.Statement.{statement}
 use Rattle.device.proofs.making_refusal.Tie as tie
 

@@ -3,24 +3,6 @@ use mathlib.Core.Path.{refl}
 use Rattle.host_words.proofs.tell.Statement.{statement}
 use Rattle.host_words.proofs.tell.Tie as tie
 
-enum-told : tie.Need-enum-told
-enum-told c = search needs
-
-enum-told-2 : tie.Need-enum-told-2
-enum-told-2 c = search needs
-
-enum-told-3 : tie.Need-enum-told-3
-enum-told-3 c = search needs
-
-enum-known-answer : tie.Need-enum-known-answer
-enum-known-answer c = search needs
-
-enum-known-answer-2 : tie.Need-enum-known-answer-2
-enum-known-answer-2 c = search needs
-
-cast-result : tie.Need-cast-result
-cast-result c = search needs
-
 returns : tie.Need-returns
 returns c = rw (c .before .answer2 .given .1) (refl, refl)
 
@@ -37,4 +19,4 @@ returns-5 : tie.Need-returns-5
 returns-5 c = rw (c .before .before .answer .given .1) (refl, refl)
 
 pub tell-spec : {M : Type 1} → statement M
-tell-spec = tie.close (tie.spec enum-told enum-told-2 enum-told-3 enum-known-answer enum-known-answer-2 cast-result returns returns-2 returns-3 returns-4 returns-5)
+tell-spec = tie.close (tie.spec (λ c. search needs) (λ c. search needs) (λ c. search needs) (λ c. search needs) (λ c. search needs) (λ c. search needs) returns returns-2 returns-3 returns-4 returns-5)

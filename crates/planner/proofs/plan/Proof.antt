@@ -2,14 +2,11 @@
 use borrow.Author.Needs.{needs}
 use mathlib.Core.Path.{sym, _∙_}
 use native.Mathlib.Omega.{arith}
-use Rattle.promises.specs.declared.Planned.{Planned}
-use Rattle.promises.proofs.Promising.{promised}
-use Rattle.promises.proofs.Answering.{fails, holds, whole, kinds, bad-start, bad-goal, no-room, no-way, planned}
+use Rattle.planner_promise.specs.declared.Planned.{Planned}
+use Rattle.planner_promise.proofs.Promising.{promised}
+use Rattle.planner_promise.proofs.Answering.{fails, holds, whole, kinds, bad-start, bad-goal, no-room, no-way, planned}
 use Rattle.planner.proofs.plan.Statement.{statement}
 use Rattle.planner.proofs.plan.Tie as tie
-
-is-formed-requires : tie.Need-is-formed-requires
-is-formed-requires c κs = search needs
 
 returns : tie.Need-returns
 returns c =
@@ -18,9 +15,6 @@ returns c =
     let a = b .before .before .args in
     let x = bad-start (a .start .now) (a .goal .now) (a .buf .now) (fails (f1 .is-formed .ensures) (c .if1 .taken)) in
     (x, promised (a .start .now) (a .goal .now) (a .buf .now) (a .buf .now) (Planned.Refused 5) (λ i. b .before .shared-slice-known .given i .fits) (λ i. b .shared-slice-known2 .given i .fits) x)
-
-is-formed-requires-2 : tie.Need-is-formed-requires-2
-is-formed-requires-2 c κs = search needs
 
 returns-2 : tie.Need-returns-2
 returns-2 c =
@@ -31,9 +25,6 @@ returns-2 c =
     let a = b .before .before .args in
     let x = bad-goal (a .start .now) (a .goal .now) (a .buf .now) (holds (f1 .is-formed .ensures) (e1 .if1 .left)) (fails (f2 .is-formed2 .ensures) (c .if2 .taken)) in
     (x, promised (a .start .now) (a .goal .now) (a .buf .now) (a .buf .now) (Planned.Refused 5) (λ i. b .before .shared-slice-known .given i .fits) (λ i. b .shared-slice-known2 .given i .fits) x)
-
-plan-room-requires : tie.Need-plan-room-requires
-plan-room-requires c κs = search needs
 
 returns-3 : tie.Need-returns-3
 returns-3 c =
@@ -93,9 +84,6 @@ lay-requires c κs =
       room = omega (arith, e3 .before .plan-room .ensures);
     }
 
-same-length : tie.Need-same-length
-same-length c = search needs
-
 returns-5 : tie.Need-returns-5
 returns-5 c =
     let l = c .before .before in
@@ -116,14 +104,14 @@ pub plan-spec : {M : Type 1} → statement M
 plan-spec =
     tie.close
     (tie.spec
-    is-formed-requires
+    (λ c κs. search needs)
     returns
-    is-formed-requires-2
+    (λ c κs. search needs)
     returns-2
-    plan-room-requires
+    (λ c κs. search needs)
     returns-3
     is-blocked-requires
     returns-4
     lay-requires
-    same-length
+    (λ c. search needs)
     returns-5)

@@ -4,11 +4,11 @@ use mathlib.Core.Bool.{Bool, false, not, _&&_}
 use Prim.Native.Nat.{_<_}
 use lib.ListN.{length, getD}
 use Rattle.bits.proofs.Laws.{tabulated}
-use Rattle.quiet.specs.Settings.{Settings}
-use Rattle.quiet.proofs.Blocked.{both}
-use Rattle.promises.specs.Formed.{formed}
-use Rattle.promises.proofs.Answering.{fails, holds, whole, kinds}
-use Rattle.halfway.proofs.Ports.{stuck-bit}
+use Rattle.planner_quiet.specs.Settings.{Settings}
+use Rattle.planner_quiet.proofs.Blocked.{both}
+use Rattle.planner_promise.specs.Formed.{formed}
+use Rattle.planner_promise.proofs.Answering.{fails, holds, whole, kinds}
+use Rattle.planner.proofs.Halves.{stuck-bit}
 use Rattle.planner.proofs.stuck_pins.Statement.{statement}
 use Rattle.planner.proofs.stuck_pins.Tie as tie
 
@@ -20,12 +20,6 @@ module _ (s g : Settings) {a b : Bool} (p : a ≡ formed s) (q : b ≡ formed g)
   fit h =
       let e = both (formed s) (formed g) (holds tests h) in
       (whole s (e .0), kinds s (e .0), whole g (e .1), kinds g (e .1))
-
-is-formed-requires : tie.Need-is-formed-requires
-is-formed-requires c κs = search needs
-
-is-formed-requires-2 : tie.Need-is-formed-requires-2
-is-formed-requires-2 c κs = search needs
 
 returns : tie.Need-returns
 returns c =
@@ -53,9 +47,6 @@ port-stuck-requires-3 c κs =
     let h = fit (x .start .now) (x .goal .now) (e .before .before .is-formed .ensures) (e .before .is-formed2 .ensures) (e .if1 .left) in
     (h .0, h .1, h .2, h .3, search needs)
 
-join3-requires : tie.Need-join3-requires
-join3-requires c κs = search needs
-
 returns-2 : tie.Need-returns-2
 returns-2 c =
     let a = c .before in
@@ -71,11 +62,11 @@ pub stuck-pins-spec : {M : Type 1} → statement M
 stuck-pins-spec =
     tie.close
     (tie.spec
-    is-formed-requires
-    is-formed-requires-2
+    (λ c κs. search needs)
+    (λ c κs. search needs)
     returns
     port-stuck-requires
     port-stuck-requires-2
     port-stuck-requires-3
-    join3-requires
+    (λ c κs. search needs)
     returns-2)

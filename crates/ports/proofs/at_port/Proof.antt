@@ -5,17 +5,8 @@ use native.Mathlib.Omega.{arith}
 use Rattle.ports.proofs.at_port.Statement.{statement}
 use Rattle.ports.proofs.at_port.Tie as tie
 
-mul-result : tie.Need-mul-result
-mul-result c = search needs
-
-cast-result : tie.Need-cast-result
-cast-result c = search needs
-
-shl-result : tie.Need-shl-result
-shl-result c = search needs
-
 returns : tie.Need-returns
 returns c = λ i. placed 8 (c .args .k) (8 * c .args .k) (omega arith) (omega arith) 64 (c .args .byte) i (c .fits .byte .fits) (omega (arith, c .pre))
 
 pub at-port-spec : {M : Type 1} → statement M
-at-port-spec = tie.close (tie.spec mul-result cast-result shl-result returns)
+at-port-spec = tie.close (tie.spec (λ c. search needs) (λ c. search needs) (λ c. search needs) returns)

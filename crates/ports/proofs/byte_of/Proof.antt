@@ -5,15 +5,6 @@ use Rattle.bits.proofs.Join.{digit-of}
 use Rattle.ports.proofs.byte_of.Statement.{statement}
 use Rattle.ports.proofs.byte_of.Tie as tie
 
-mul-result : tie.Need-mul-result
-mul-result c = search needs
-
-cast-result : tie.Need-cast-result
-cast-result c = search needs
-
-shr-result : tie.Need-shr-result
-shr-result c = search needs
-
 cast-result-2 : tie.Need-cast-result-2
 cast-result-2 c = record { fits = mask-lt (c .args .s / 2 ^ (8 * c .args .k)) 8 }
 
@@ -21,4 +12,4 @@ returns : tie.Need-returns
 returns c = digit-of 8 (c .args .s) (8 * c .args .k)
 
 pub byte-of-spec : {M : Type 1} → statement M
-byte-of-spec = tie.close (tie.spec mul-result cast-result shr-result cast-result-2 returns)
+byte-of-spec = tie.close (tie.spec (λ c. search needs) (λ c. search needs) (λ c. search needs) cast-result-2 returns)

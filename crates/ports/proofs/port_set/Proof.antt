@@ -6,11 +6,8 @@ use native.Mathlib.Omega.{arith}
 use Rattle.ports.proofs.port_set.Statement.{statement}
 use Rattle.ports.proofs.port_set.Tie as tie
 
-at-port-requires : tie.Need-at-port-requires
-at-port-requires c κs = search needs
-
 returns : tie.Need-returns
 returns c = λ i. c .at-port .ensures i ∙ all-ones 8 (omega arith) (inPort (c .before .args .k) i) i
 
 pub port-set-spec : {M : Type 1} → statement M
-port-set-spec = tie.close (tie.spec at-port-requires returns)
+port-set-spec = tie.close (tie.spec (λ c κs. search needs) returns)

@@ -3,17 +3,11 @@ use borrow.Author.Tests.{lt-ltb, le-ltb}
 use Rattle.text.proofs.digit_byte.Statement.{statement}
 use Rattle.text.proofs.digit_byte.Tie as tie
 
-add-result : tie.Need-add-result
-add-result c = search needs
-
 returns : tie.Need-returns
 returns c = simp (lt-ltb _ _ (c .if1 .taken))
-
-add-result-2 : tie.Need-add-result-2
-add-result-2 c = search needs
 
 returns-2 : tie.Need-returns-2
 returns-2 c = simp (le-ltb _ _ (c .if1 .left))
 
 pub digit-byte-spec : {M : Type 1} → statement M
-digit-byte-spec = tie.close (tie.spec add-result returns add-result-2 returns-2)
+digit-byte-spec = tie.close (tie.spec (λ c. search needs) returns (λ c. search needs) returns-2)

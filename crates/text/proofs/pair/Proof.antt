@@ -3,18 +3,6 @@ use Rattle.text.proofs.Laws.{pair-first, pair-second, pair-fits}
 use Rattle.text.proofs.pair.Statement.{statement}
 use Rattle.text.proofs.pair.Tie as tie
 
-mul-digits : tie.Need-mul-digits
-mul-digits c = search needs
-
-add-digits : tie.Need-add-digits
-add-digits c = search needs
-
-add-letters : tie.Need-add-letters
-add-letters c = search needs
-
-add-result : tie.Need-add-result
-add-result c = search needs
-
 mul-result : tie.Need-mul-result
 mul-result c = record { fits = pair-fits (c .args .b) .0 }
 
@@ -27,4 +15,4 @@ returns c = (pair-first _ (search needs), pair-second _ (search needs))
 pub pair-spec : {M : Type 1} → statement M
 pair-spec =
     tie.close
-    (tie.spec mul-digits add-digits add-letters add-result mul-result add-result-2 returns)
+    (tie.spec (λ c. search needs) (λ c. search needs) (λ c. search needs) (λ c. search needs) mul-result add-result-2 returns)

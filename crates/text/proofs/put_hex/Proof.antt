@@ -18,21 +18,6 @@ abbrev μ-loop : tie.MeasureT-loop
 loop-holds : tie.Need-loop-holds Inv-loop μ-loop
 loop-holds c = (search needs, refl, refl)
 
-sub-i : tie.Need-sub-i Inv-loop μ-loop
-sub-i c = search needs
-
-low-digit-requires : tie.Need-low-digit-requires Inv-loop μ-loop
-low-digit-requires c κs = search needs
-
-add-out : tie.Need-add-out Inv-loop μ-loop
-add-out c = search needs
-
-slice-write-out : tie.Need-slice-write-out Inv-loop μ-loop
-slice-write-out c = search needs
-
-loop-less : tie.Need-loop-less Inv-loop μ-loop
-loop-less c = search needs
-
 loop-again : tie.Need-loop-again Inv-loop μ-loop
 loop-again c =
     let l = c .before .before in
@@ -43,12 +28,6 @@ loop-again c =
       rw (c .low-digit .ensures)
           (hex-more (l .loop .out) (a .at) (l .loop .i - 1) (l .loop .rest) ∙ ap (λ (k : ℕ). sets (l .loop .out) (a .at) (hexText k (l .loop .rest))) e ∙ l .loop .inv .2),
     )
-
-add-result : tie.Need-add-result Inv-loop μ-loop
-add-result c = search needs
-
-same-length : tie.Need-same-length Inv-loop μ-loop
-same-length c = search needs
 
 returns : tie.Need-returns Inv-loop μ-loop
 unfolding hexText
@@ -67,12 +46,12 @@ put-hex-spec =
     Inv-loop
     μ-loop
     loop-holds
-    sub-i
-    low-digit-requires
-    add-out
-    slice-write-out
-    loop-less
+    (λ c. search needs)
+    (λ c κs. search needs)
+    (λ c. search needs)
+    (λ c. search needs)
+    (λ c. search needs)
     loop-again
-    add-result
-    same-length
+    (λ c. search needs)
+    (λ c. search needs)
     returns)

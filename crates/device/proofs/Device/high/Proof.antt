@@ -3,7 +3,7 @@ use mathlib.Core.Path.{ap, _∙_}
 use borrow.Author.Tests.{not-true, not-false}
 use Rattle.map.specs.Map.{part24}
 use Rattle.registers.specs.Registers.{drivenHigh}
-use Rattle.bus.specs.Device.{State}
+use Rattle.device_rules.specs.Device.{State}
 use Rattle.device.specs.Asked.{driven}
 use Rattle.device.proofs.Asking.{refused, asked}
 use Rattle.device.proofs.Device.high.Statement.{statement}

@@ -4,8 +4,8 @@ use native.Mathlib.Omega.{arith}
 use borrow.Author.Tests.{not-true, not-false, ne-eqb, eq-eqb}
 use Rattle.map.specs.Map.{part24}
 use Rattle.registers.specs.Registers.{shown}
-use Rattle.bus.specs.Device.{State}
-use Rattle.rows.proofs.Taken.{word-there, row-zero}
+use Rattle.device_rules.specs.Device.{State}
+use Rattle.words_rows.proofs.Taken.{word-there, row-zero}
 use Rattle.device.specs.Asked.{byte}
 use Rattle.device.proofs.Asking.{its-image, refused, asked, over}
 use Rattle.device.proofs.Device.show.Statement.{statement}

@@ -2,11 +2,11 @@ use borrow.Author.Needs.{needs}
 use mathlib.Core.Path.{ap, ap₂, _∙_}
 use borrow.Author.Tests.{not-true, not-false}
 use Rattle.map.specs.Map.{part24}
-use Rattle.bus.specs.Device.{State, out}
-use Rattle.bus.specs.Held.{stateOf}
-use Rattle.refusals.specs.Refusals.{stepped}
-use Rattle.refusals.proofs.Images.{broken}
-use Rattle.word_images.proofs.Packing.{unpacked}
+use Rattle.device_rules.specs.Device.{State, out}
+use Rattle.device_rules.specs.Held.{stateOf}
+use Rattle.device_rules.specs.Refusals.{stepped}
+use Rattle.device_rules.proofs.Images.{broken}
+use Rattle.words_images.proofs.Packing.{unpacked}
 use Rattle.device.proofs.Asking.{no-image}
 use Rattle.device.proofs.Device.step.Statement.{statement}
 use Rattle.device.proofs.Device.step.Tie as tie

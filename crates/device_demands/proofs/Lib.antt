@@ -1,0 +1,5 @@
+pub mod Causes
+pub mod Keeps
+pub mod Machine
+pub mod Runs
+pub mod Transacting

@@ -1,0 +1,3 @@
+pub mod Stepping
+pub mod Images
+pub mod Making

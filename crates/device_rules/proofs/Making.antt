@@ -1,0 +1,38 @@
+-- Making a device: when it is refused, and what is made. Assumes nothing.
+use mathlib.Core.Path.{_≡_, refl}
+use mathlib.Core.Bool.{Bool, true, false}
+use mathlib.Core.List.{List}
+use Prim.Native.Nat.{ℕ, _^_, _<_}
+use native.Mathlib.Omega.{arith}
+use borrow.Author.Tests.{lt-ltb, le-ltb, lt-leb, le-leb}
+use Rattle.map.specs.Map.{part24, defaults}
+use Rattle.registers.specs.Registers.{core}
+use Rattle.registers.proofs.Writing.{same}
+use Rattle.device_rules.specs.Device.{State, state}
+use Rattle.device_rules.specs.Refusals.{imageFits}
+use Rattle.device_rules.proofs.Stepping.{same-state}
+use Rattle.device_rules.specs.PowerOn.{powerOn, makingRefused, MadeOf}
+use Rattle.device_rules.proofs.Images.{sound-of}
+
+module _ (choice levels : ℕ) where
+  pub choice-over : 3 < choice → 2 ≡ makingRefused part24 choice levels
+  choice-over h = simp (lt-leb choice 3 h)
+
+  pub levels-over : choice < 4 → 0xff_ffff < levels → 2 ≡ makingRefused part24 choice levels
+  levels-over fits h = simp (le-leb choice 3 (omega arith), le-ltb levels (2 ^ 24) h)
+
+  pub none-over : choice < 4 → levels < 2 ^ 24 → 0 ≡ makingRefused part24 choice levels
+  none-over fits h = simp (le-leb choice 3 (omega arith), lt-ltb levels (2 ^ 24) h)
+
+  abbrev at-power-on : List ℕ → State
+  at-power-on file = state (core file (record { level = levels; reference = levels; held = 0; edge = 0 })) 0 0 choice
+
+  pub made-of : {n : ℕ} {file : List ℕ} → n ≡ makingRefused part24 choice levels → file ≡ defaults part24 → MadeOf part24 choice levels n (at-power-on file)
+  unfolding powerOn
+  made-of {n} {file} q e = record { number = q; made = same-state (same e refl) refl refl refl; none = λ z. fits-not z (imageFits part24 (at-power-on file)) refl }
+    where
+      fits-not : makingRefused part24 choice levels ≡ 2 → (b : Bool) → imageFits part24 (at-power-on file) ≡ b → imageFits part24 (at-power-on file) ≡ false
+      fits-not z true i =
+          let known = sound-of (at-power-on file) i in
+          absurd (omega (arith, z, none-over (known .choice-small) (known .within .level-small)))
+      fits-not z false i = i

@@ -1,0 +1,105 @@
+-- The device: its state, what each event does to it, and what it answers.
+use mathlib.Core.Bool.{Bool, cond}
+use mathlib.Core.List.{[], _∷_}
+use Prim.Native.Nat.{ℕ, _+_, _*_}
+use lib.Dec.{eqb}
+use lib.ListN.{getD}
+use Rattle.pins.specs.Pin.{reset}
+use Rattle.pins.specs.AllPins.{mapPins}
+use Rattle.map.specs.Map.{Part, reserved, next, defaults}
+use Rattle.registers.specs.Registers.{Core, core, written, fetched, levelled, shown}
+use Rattle.device_rules.specs.declared.Answer.{Answer}
+use Rattle.device_rules.specs.declared.Answer.the-variants.{Nothing, Ack, Nak, Byte}
+
+-- the bus states, numbered 0 to 7 in this order
+pub data Bus : Type 0 where
+  Idle Opened Chosen Filling Sending Call Armed Deaf : Bus
+
+abbrev pub number : Bus → ℕ
+number Idle = 0
+number Opened = 1
+number Chosen = 2
+number Filling = 3
+number Sending = 4
+number Call = 5
+number Armed = 6
+number Deaf = 7
+
+abbrev pub busAt : ℕ → Bus
+busAt n = getD (Idle ∷ Opened ∷ Chosen ∷ Filling ∷ Sending ∷ Call ∷ Armed ∷ Deaf ∷ []) n Deaf
+
+-- registers and pins; the pointer; the bus state's number; the address choice
+pub record State : Type 0 where
+  pub regs : Core
+  pub pointer : ℕ
+  pub bus : ℕ
+  pub choice : ℕ
+
+abbrev pub state : Core → (pointer bus choice : ℕ) → State
+state regs pointer bus choice = record { regs = regs; pointer = pointer; bus = bus; choice = choice }
+
+-- an answer, and the state after
+pub record Outcome : Type 0 where
+  pub answer : Answer
+  pub after : State
+
+abbrev pub out : Answer → State → Outcome
+out answer after = record { answer = answer; after = after }
+
+abbrev pub goes : State → Bus → State
+goes s b = state (s .regs) (s .pointer) (number b) (s .choice)
+
+-- Address choice 0, 1, 2, 3 gives seven-bit address 20h, 21h, 22h, 23h; the address byte is twice it, plus 1 to read.
+abbrev pub addressByte : State → ℕ
+addressByte s = 2 * (0x20 + s .choice)
+
+-- Reset, of whatever kind: defaults, pointer 00h, Idle, no events held, each reference at the present level. Levels and address stay.
+unfoldable pub resetted : Part → State → State
+resetted p s = state (core (defaults p) (mapPins (p .width) (s .regs .sets) (λ i. reset))) 0 (number Idle) (s .choice)
+
+-- A byte from the master, by the bus state.
+unfoldable pub byteIn : Part → Bus → State → (b : ℕ) → Outcome
+byteIn p Opened s b =
+    cond (eqb b (addressByte s)) (out Ack (goes s Chosen))
+    (cond (eqb b (addressByte s + 1)) (out Ack (goes s Sending)) (cond (eqb b 0x00) (out Ack (goes s Call)) (out Nak (goes s Deaf))))
+-- a command number that is not reserved becomes the pointer; else the pointer is kept
+byteIn p Chosen s b = cond (reserved p b) (out Nak (goes s Deaf)) (out Ack (state (s .regs) b (number Filling) (s .choice)))
+-- the register at the pointer is written, and the pointer steps
+byteIn p Filling s b = out Ack (state (written p (s .regs) (s .pointer) b) (next p (s .pointer)) (number Filling) (s .choice))
+byteIn p Call s b = cond (eqb b 0x06) (out Ack (goes s Armed)) (out Nak (goes s Deaf))
+byteIn p Armed s b = out Nak (goes s Deaf)
+byteIn p Sending s b = out Nak (goes s Deaf)
+byteIn p Idle s b = out Nak s
+byteIn p Deaf s b = out Nak s
+
+-- A byte fetched by the master, by the bus state: in Sending the byte at the pointer; acknowledged, the pointer steps; not acknowledged, Deaf.
+-- In another state FFh, and nothing changes.
+unfoldable pub fetchIn : Part → Bus → State → (acknowledged : Bool) → Outcome
+fetchIn p Sending s acknowledged =
+    out (Byte (shown p (s .regs) (s .pointer)))
+    (cond acknowledged (state (fetched p (s .regs) (s .pointer)) (next p (s .pointer)) (number Sending) (s .choice))
+    (state (fetched p (s .regs) (s .pointer)) (s .pointer) (number Deaf) (s .choice)))
+fetchIn p Idle s acknowledged = out (Byte 0xff) s
+fetchIn p Opened s acknowledged = out (Byte 0xff) s
+fetchIn p Chosen s acknowledged = out (Byte 0xff) s
+fetchIn p Filling s acknowledged = out (Byte 0xff) s
+fetchIn p Call s acknowledged = out (Byte 0xff) s
+fetchIn p Armed s acknowledged = out (Byte 0xff) s
+fetchIn p Deaf s acknowledged = out (Byte 0xff) s
+
+-- ---- events
+pub data Event : Type 0 where
+  Start Stop HardwareReset : Event
+  ByteSent : (b : ℕ) → Event
+  ByteFetched : (acknowledged : Bool) → Event
+  Levels : (new : ℕ) → Event
+
+unfoldable pub step : Part → State → Event → Outcome
+-- START goes to Opened from any state; the pointer stays
+step p s Start = out Nothing (goes s Opened)
+-- STOP goes to Idle; from Armed the device resets first
+step p s Stop = out Nothing (cond (eqb (s .bus) (number Armed)) (resetted p s) (goes s Idle))
+step p s (ByteSent b) = byteIn p (busAt (s .bus)) s b
+step p s (ByteFetched acknowledged) = fetchIn p (busAt (s .bus)) s acknowledged
+step p s (Levels new) = out Nothing (state (levelled p (s .regs) new) (s .pointer) (s .bus) (s .choice))
+step p s HardwareReset = out Nothing (resetted p s)

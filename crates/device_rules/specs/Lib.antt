@@ -1,0 +1,5 @@
+pub mod Answers
+pub mod Device
+pub mod Held
+pub mod PowerOn
+pub mod Refusals

@@ -1,0 +1,19 @@
+use borrow.Author.Needs.{needs}
+use Rattle.bits.proofs.Decide.{clash}
+use Rattle.host_words.proofs.Laws.{seen, unseen, int-told}
+use Rattle.ghixramel.proofs.ghixramel_int.Statement.{statement}
+use Rattle.ghixramel.proofs.ghixramel_int.Tie as tie
+
+returns : tie.Need-returns
+returns c =
+    let told = c .before in
+    let view = told .before in
+    let fits = view .before .before in
+    let k = fits .fits2 .ensures .0 (view .before .if1 .taken) in
+    seen _ _ _ _ k (int-told (told .one-if .ensures) (view .int .ensures 0 (k .fit)))
+
+returns-2 : tie.Need-returns-2
+returns-2 c = unseen _ _ _ (λ k. clash _ (c .before .fits2 .ensures .1 k) (c .if1 .left))
+
+pub ghixramel-int-spec : {M : Type 1} → statement M
+ghixramel-int-spec = tie.close (tie.spec (λ c κs. search needs) (λ c κs. search needs) (λ c κs. search needs) returns returns-2)

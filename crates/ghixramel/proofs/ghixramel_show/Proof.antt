@@ -1,0 +1,57 @@
+use borrow.Author.Needs.{needs}
+use mathlib.Core.Path.{_≡_, sym, ap, _∙_}
+use mathlib.Core.List.{[], _∷_}
+use Prim.Native.Nat.{ℕ, _%_, _<_}
+use borrow.Author.Tests.{eq-eqb, ne-eqb, not-true, not-false}
+use native.Mathlib.Nat.{mod-eq-of-lt}
+use native.Mathlib.Omega.{arith}
+use Rattle.bits.proofs.Decide.{clash}
+use Rattle.map.specs.Map.{part24}
+use Rattle.words_rows.specs.Rows.{rowAt}
+use Rattle.words_rows.proofs.Taken.{row-zero, word-there}
+use Rattle.host_words.proofs.Laws.{shown-here, no-register, not-shown, above}
+use Rattle.ghixramel.proofs.ghixramel_show.Statement.{statement}
+use Rattle.ghixramel.proofs.ghixramel_show.Tie as tie
+
+-- the row that was looked up is the register's
+row-of : (row n : ℕ) → n < 128 → row ≡ rowAt part24 (n % 128) → row ≡ rowAt part24 n
+row-of row n h e = let q : n % 128 ≡ n = mod-eq-of-lt h in e ∙ ap (rowAt part24) q
+
+returns : tie.Need-returns
+returns c = not-shown _ _ _ (λ k. clash _ (c .before .fits2 .ensures .1 k) (not-true _ (c .if1 .taken)))
+
+returns-2 : tie.Need-returns-2
+returns-2 c =
+    let fits = c .before .before in
+    no-register _ _ _ (fits .fits2 .ensures .0 (not-false _ (c .before .if1 .left))) (above (fits .before .args .number) (omega (arith, c .if2 .taken)))
+
+returns-3 : tie.Need-returns-3
+returns-3 c =
+    let looked = c .before in
+    let fits = looked .before .before .before in
+    let n = fits .before .args .number in
+    let small : n < 128 = omega (arith, looked .before .if2 .left) in
+    no-register _ _ _ (fits .fits2 .ensures .0 (not-false _ (looked .before .before .if1 .left)))
+    (sym (row-zero _ 0 n small (row-of _ n small (looked .row24 .ensures))) ∙ eq-eqb _ 0 (c .if3 .taken))
+
+show-requires : tie.Need-show-requires
+show-requires c κs =
+    let looked = c .before in
+    let n = looked .before .before .before .before .args .number in
+    let small : n < 128 = omega (arith, looked .before .if2 .left) in
+    omega (arith, word-there _ 0 n small (row-of _ n small (looked .row24 .ensures)))
+
+returns-4 : tie.Need-returns-4
+returns-4 c =
+    let view = c .before in
+    let looked = view .before .before in
+    let fits = looked .before .before .before in
+    let n = fits .before .args .number in
+    let small : n < 128 = omega (arith, looked .before .if2 .left) in
+    let e = row-of _ n small (looked .row24 .ensures) in
+    let k = fits .fits2 .ensures .0 (not-false _ (looked .before .before .if1 .left)) in
+    let known = sym (row-zero _ 0 n small e) ∙ ne-eqb _ 0 (view .before .if3 .left) in
+    shown-here _ _ _ _ k known (ap (λ (b : ℕ). b ∷ []) (view .show .ensures 0 n known e (k .fit)))
+
+pub ghixramel-show-spec : {M : Type 1} → statement M
+ghixramel-show-spec = tie.close (tie.spec (λ c κs. search needs) returns returns-2 (λ c. search needs) (λ c κs. search needs) returns-3 show-requires returns-4)

@@ -1,0 +1,149 @@
+// The C boundary: the state as words that the caller owns, an image as its arrays, answers and refusals as numbers.
+ghost use mathlib.Core.Path.{_≡_};
+ghost use mathlib.Core.Bool.{false};
+ghost use lib.Dec.{eqb};
+ghost use lib.ListN.{length};
+ghost use Rattle.planner_promise.specs.Answer.{answerOf, Answers};
+ghost use Rattle.planner_promise.specs.Promise.{Promise};
+ghost use Rattle.host_words.specs.Host.{Told, Made, Seen, Shown, drivesOf, intOf, imageIn, FromImage, ToImage, plannedAs, countIn};
+use pins::Sets;
+use words::BUS;
+use words::CHOICE;
+use words::EDGE;
+use words::HELD;
+use words::LEVEL;
+use words::POINTER;
+use words::REFERENCE;
+
+// A device at power-on.
+#[no_mangle]
+pub extern "C" fn ghixramel_power_on(words: &mut [u64; 28], choice: u32, levels: u64) -> u32
+    ensures { λ r. ⌜ Made choice levels r (now (words .entry)) (now (words .exit)) ⌝ }
+{
+    if 3 < choice {
+        return 2;
+    }
+    if words_device::PINS < levels {
+        return 2;
+    }
+    words_device::power_on(words, (choice % 4) as u8, levels);
+    0
+}
+
+// One event.
+#[no_mangle]
+pub extern "C" fn ghixramel_step(
+    words: &mut [u64; 28],
+    kind: u32,
+    argument: u64,
+    told: &mut [u8; 2],
+) -> u32
+    ensures { λ r. ⌜ Told (now (words .entry)) kind argument r (now (words .exit)) (now (told .entry)) (now (told .exit)) ⌝ }
+{
+    let answer = words_bus::answer(words_bus::step24(words, kind, argument));
+    host_words::tell(answer, told)
+}
+
+// The pins driven low and high.
+#[no_mangle]
+pub extern "C" fn ghixramel_drives(words: &[u64; 28], drives: &mut [u64; 2]) -> u32
+    ensures { λ r. ⌜ Seen (now (words .entry)) drivesOf r (now (drives .entry)) (now (drives .exit)) ⌝ }
+{
+    if words_device::fits(words, 0) {
+        let low = words_views::low(words, words_device::PINS);
+        let high = words_views::high(words);
+        *drives = [low, high];
+        return 0;
+    }
+    3
+}
+
+// Whether INT is asserted.
+#[no_mangle]
+pub extern "C" fn ghixramel_int(words: &[u64; 28], asserted: &mut [u8; 1]) -> u32
+    ensures { λ r. ⌜ Seen (now (words .entry)) intOf r (now (asserted .entry)) (now (asserted .exit)) ⌝ }
+{
+    if words_device::fits(words, 0) {
+        *asserted = [host_words::one_if(words_views::int(words))];
+        return 0;
+    }
+    3
+}
+
+// The byte that a fetch of register n would show.
+#[no_mangle]
+pub extern "C" fn ghixramel_show(words: &[u64; 28], number: u32, byte: &mut [u8; 1]) -> u32
+    ensures { λ r. ⌜ Shown (now (words .entry)) number r (now (byte .entry)) (now (byte .exit)) ⌝ }
+{
+    if !words_device::fits(words, 0) {
+        return 3;
+    }
+    if 127 < number {
+        return 2;
+    }
+    let row = words_rows::row24((number % 128) as u8);
+    if row == 0 {
+        return 2;
+    }
+    *byte = [words_views::show(words, row)];
+    0
+}
+
+// The words of an image.
+#[no_mangle]
+pub extern "C" fn ghixramel_pack(
+    words: &mut [u64; 28],
+    pins: &[u64; 4],
+    file: &[u8; 128],
+    bus: &[u64; 3],
+) -> u32
+    ensures { λ r. ⌜ FromImage (imageIn (now (pins .entry)) (now (file .entry)) (now (bus .entry))) r (now (words .entry)) (now (words .exit)) ⌝ }
+{
+    let sets = Sets {
+        level: pins[0],
+        reference: pins[1],
+        held: pins[2],
+        edge: pins[3],
+    };
+    if words_images::pack(words, 0, file, sets, bus[0], bus[1], bus[2]) {
+        return 0;
+    }
+    3
+}
+
+// The image of words.
+#[no_mangle]
+pub extern "C" fn ghixramel_unpack(
+    words: &[u64; 28],
+    pins: &mut [u64; 4],
+    file: &mut [u8; 128],
+    bus: &mut [u64; 3],
+) -> u32
+    ensures { λ r. ⌜ ToImage (now (words .entry)) r (now (pins .entry)) (now (file .entry)) (now (bus .entry))
+        (now (pins .exit)) (now (file .exit)) (now (bus .exit)) ⌝ }
+{
+    if !words_device::fits(words, 0) {
+        return 3;
+    }
+    words_images::to_file(words, 0, file);
+    *pins = [words[LEVEL], words[REFERENCE], words[HELD], words[EDGE]];
+    *bus = [words[POINTER], words[BUS], words[CHOICE]];
+    0
+}
+
+// The plan from the start to the goal, at the start of the buffer.
+#[no_mangle]
+pub extern "C" fn ghixramel_plan(
+    start: &[u8],
+    goal: &[u8],
+    buffer: &mut [u8],
+    writes: &mut [u64; 1],
+) -> u32
+    ensures exact { λ r. ⌜ Answers (plannedAs r (now (writes .exit))) (now (buffer .entry)) (now (buffer .exit))
+        (answerOf (now (start .entry)) (now (goal .entry)) (length (now (buffer .entry)))) ⌝ }
+    ensures promise { λ r. ⌜ Promise (now (start .entry)) (now (goal .entry)) (now (buffer .entry)) (now (buffer .exit)) r (countIn r (now (writes .exit))) ⌝ }
+    ensures refused { λ r. ⌜ (eqb r 0 ≡ false → now (writes .exit) ≡ now (writes .entry)) ⌝ }
+{
+    let planned = planner::plan(start, goal, buffer);
+    host_words::tell_plan(planned, writes)
+}

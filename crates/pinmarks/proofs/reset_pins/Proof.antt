@@ -1,9 +1,0 @@
-use Rattle.pins.proofs.Rules.{reset-map}
-use Rattle.pinmarks.proofs.reset_pins.Statement.{statement}
-use Rattle.pinmarks.proofs.reset_pins.Tie as tie
-
-returns : tie.Need-returns
-returns c = λ w d. reset-map w _ d
-
-pub reset-pins-spec : {M : Type 1} → statement M
-reset-pins-spec = tie.close (tie.spec returns)

@@ -1,9 +1,0 @@
-use Rattle.pins.proofs.Rules.{high-set}
-use Rattle.pinviews.proofs.driven_high.Statement.{statement}
-use Rattle.pinviews.proofs.driven_high.Tie as tie
-
-returns : tie.Need-returns
-returns c = high-set _ _ _ _
-
-pub driven-high-spec : {M : Type 1} → statement M
-driven-high-spec = tie.close (tie.spec returns)

@@ -1,9 +1,0 @@
-use Rattle.pins.proofs.Rules.{low-set}
-use Rattle.pinviews.proofs.driven_low.Statement.{statement}
-use Rattle.pinviews.proofs.driven_low.Tie as tie
-
-returns : tie.Need-returns
-returns c = low-set _ _ _
-
-pub driven-low-spec : {M : Type 1} → statement M
-driven-low-spec = tie.close (tie.spec returns)

@@ -1,9 +1,0 @@
-use Rattle.pins.proofs.Rules.{input-set}
-use Rattle.pinviews.proofs.input_bits.Statement.{statement}
-use Rattle.pinviews.proofs.input_bits.Tie as tie
-
-returns : tie.Need-returns
-returns c = input-set _ _ _ _ _ _
-
-pub input-bits-spec : {M : Type 1} → statement M
-input-bits-spec = tie.close (tie.spec returns)

@@ -1,2 +1,0 @@
-pub mod Pinwise
-pub mod Written

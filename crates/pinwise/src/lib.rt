@@ -1,1 +1,0 @@
-// A register write, seen at one pin: see proofs/.

@@ -1,9 +1,0 @@
-use Rattle.pins.proofs.Rules.{edge-map}
-use Rattle.pinwrites.proofs.write_edge.Statement.{statement}
-use Rattle.pinwrites.proofs.write_edge.Tie as tie
-
-returns : tie.Need-returns
-returns c = λ w d. edge-map w _ d _ _ _
-
-pub write-edge-spec : {M : Type 1} → statement M
-write-edge-spec = tie.close (tie.spec returns)

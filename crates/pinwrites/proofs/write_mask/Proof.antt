@@ -1,9 +1,0 @@
-use Rattle.pins.proofs.Rules.{mask-map}
-use Rattle.pinwrites.proofs.write_mask.Statement.{statement}
-use Rattle.pinwrites.proofs.write_mask.Tie as tie
-
-returns : tie.Need-returns
-returns c = λ w d. mask-map w _ d _ _
-
-pub write-mask-spec : {M : Type 1} → statement M
-write-mask-spec = tie.close (tie.spec returns)

@@ -1,0 +1,47 @@
+-- What is asked of the planner, byte by byte: a line START<tab>GOAL of lowercase hex digits, of any length.
+use mathlib.Core.Bool.{Bool, true, false, cond, not, _&&_}
+use mathlib.Core.List.{List, [], _∷_}
+use Prim.Native.Nat.{ℕ, _+_, _*_, _%_}
+use lib.Dec.{eqb, ltb}
+use lib.ListN.{set}
+use Rattle.text.specs.Text.{digitOf}
+use Rattle.plan_lines.specs.declared.Field.{Field}
+use Rattle.plan_lines.specs.declared.Reading.{Reading}
+
+abbrev pub field : List ℕ → (count high : ℕ) → Field
+field bytes count high = record { bytes = bytes; count = count; high = high }
+
+-- A pair of digits is whole: the first ten bytes are kept, and from the eleventh on they are only counted, as 11.
+unfoldable pub byteTaken : Field → (v : ℕ) → Field
+byteTaken f v = cond (ltb (f .count) 10) (field (set (f .bytes) (f .count) v) (f .count + 1) 16) (field (f .bytes) 11 16)
+
+-- A digit: the first of a pair waits, 16 says that none waits.
+unfoldable pub digitTaken : Field → (d : ℕ) → Field
+digitTaken f d = cond (eqb (f .high) 16) (field (f .bytes) (f .count) d) (byteTaken f (f .high % 16 * 16 + d))
+
+abbrev pub reading : (start goal : Field) → (tabs : ℕ) → (bad : Bool) → Reading
+reading start goal tabs bad = record { start = start; goal = goal; tabs = tabs; bad = bad }
+
+-- Before the first byte of a line.
+abbrev pub nothing : Field
+nothing = field (0 ∷ 0 ∷ 0 ∷ 0 ∷ 0 ∷ 0 ∷ 0 ∷ 0 ∷ 0 ∷ 0 ∷ []) 0 16
+
+abbrev pub begun : Reading
+begun = reading nothing nothing 0 false
+
+-- A digit goes to its field.
+unfoldable pub withDigit : Reading → (d : ℕ) → Reading
+withDigit r d =
+    cond (eqb (r .tabs) 0) (reading (digitTaken (r .start) d) (r .goal) (r .tabs) (r .bad)) (reading (r .start) (digitTaken (r .goal) d) (r .tabs) (r .bad))
+
+-- A byte of the line: a tab ends the first field, a digit goes to its field, and any other byte spoils the line.
+unfoldable pub taken : Reading → (b : ℕ) → Reading
+taken r b =
+    cond (eqb b 0x09) (reading (r .start) (r .goal) (cond (ltb (r .tabs) 2) (r .tabs + 1) 2) (r .bad))
+    (cond (ltb (digitOf b) 16) (withDigit r (digitOf b)) (reading (r .start) (r .goal) (r .tabs) true))
+
+-- What the line is refused for before the planner is asked: 7 if it is not two fields of whole pairs, 5 if one is not ten bytes; 0 is nothing.
+unfoldable pub lineRefusal : Reading → ℕ
+lineRefusal r =
+    cond (((not (r .bad) && eqb (r .tabs) 1) && eqb (r .start .high) 16) && eqb (r .goal .high) 16)
+    (cond (eqb (r .start .count) 10 && eqb (r .goal .count) 10) 0 5) 7

@@ -1,0 +1,10 @@
+use borrow.Author.Needs.{needs}
+use Rattle.planner_bytes.proofs.Bytes.{stuck-set}
+use Rattle.planner_bytes.proofs.stuck_in.Statement.{statement}
+use Rattle.planner_bytes.proofs.stuck_in.Tie as tie
+
+returns : tie.Need-returns
+returns c = stuck-set 8 _ _ (search needs)
+
+pub stuck-in-spec : {M : Type 1} → statement M
+stuck-in-spec = tie.close (tie.spec returns)

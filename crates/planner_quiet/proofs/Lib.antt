@@ -1,0 +1,9 @@
+pub mod Blocked
+pub mod Calm
+pub mod Exactly
+pub mod Lift
+pub mod Needed
+pub mod Pin
+pub mod Quietly
+pub mod Standing
+pub mod Theorems

@@ -1,0 +1,4 @@
+pub mod Order
+pub mod Quiet
+pub mod Route
+pub mod Settings

@@ -1,0 +1,154 @@
+// The fields of a line of the probe program, read at their places.
+// The fields of a line of the probe program, written.
+ghost use mathlib.Core.Path.{_≡_};
+ghost use mathlib.Core.Bool.{false, cond};
+ghost use Prim.Native.Nat.{_+_, _-_, _^_, _<_, _≤_};
+ghost use lib.Dec.{eqb, ltb};
+ghost use lib.ListN.{length, getD, take, drop};
+ghost use Rattle.text.specs.Text.{digitOf, hexText, Wrote};
+ghost use Rattle.probe_fields.specs.Fields.{lineForm, readable, numberAt, numberIn, bytesAt, widths, bytesText, fieldsText};
+ghost use mathlib.Core.List.{[], _∷_};
+use text::Digits;
+
+// Whether a tab stands at this place of a line.
+fn is_tab(i: usize) -> bool
+    requires { ⌜ i < 359 ⌝ }
+    ensures { λ r. ⌜ r ≡ getD lineForm i false ⌝ }
+{
+    (i == 256)
+        | (i == 273)
+        | (i == 290)
+        | (i == 307)
+        | (i == 324)
+        | (i == 327)
+        | (i == 330)
+        | (i == 333)
+        | (i == 342)
+}
+
+// Whether the byte is a tab, or a digit.
+fn byte_fits(tab: bool, b: u8) -> bool
+    ensures { λ r. ⌜ r ≡ cond tab (eqb b 0x09) (ltb (digitOf b) 16) ⌝ }
+{
+    if tab {
+        return b == b'\t';
+    }
+    text::digit(b) < 16
+}
+
+// Whether the line is digits with tabs at their places.
+pub fn is_readable(line: &[u8]) -> bool
+    ensures { λ r. ⌜ r ≡ readable (now (line .entry)) ⌝ }
+{
+    if line.len() != 359 {
+        return false;
+    }
+    let mut i = 0;
+    while i < 359 {
+        if !byte_fits(is_tab(i), line[i]) {
+            return false;
+        }
+        i += 1;
+    }
+    true
+}
+
+// The number of so many digits from a place on.
+fn number_at(line: &[u8], at: usize, width: usize, most: u64) -> u64
+    requires { ⌜ (at + width ≤ length (now line)) × (width ≤ 16) × (most ≡ 16 ^ width - 1) ⌝ }
+    ensures { λ r. ⌜ (r ≡ numberAt (now (line .entry)) at width) × (r ≤ most) ⌝ }
+{
+    let to = at + width;
+    let d = text::field(&line[at..to], width, most);
+    let Digits::Number(n) = d else {
+        return 0;
+    };
+    n
+}
+
+// Two digits.
+pub fn byte_at(line: &[u8], at: usize) -> u8
+    requires { ⌜ at + 2 ≤ length (now line) ⌝ }
+    ensures { λ r. ⌜ r ≡ numberAt (now (line .entry)) at 2 ⌝ }
+{
+    number_at(line, at, 2, 0xff) as u8
+}
+
+// Sixteen digits.
+pub fn word_at(line: &[u8], at: usize) -> u64
+    requires { ⌜ at + 16 ≤ length (now line) ⌝ }
+    ensures { λ r. ⌜ r ≡ numberAt (now (line .entry)) at 16 ⌝ }
+{
+    number_at(line, at, 16, u64::MAX)
+}
+
+// An event's kind.
+pub fn kind_in(line: &[u8]) -> u32
+    requires { ⌜ length (now line) ≡ 359 ⌝ }
+    ensures { λ r. ⌜ r ≡ numberIn (now (line .entry)) 8 ⌝ }
+{
+    number_at(line, 334, 8, 0xffff_ffff) as u32
+}
+
+// The registers.
+pub fn file_in(line: &[u8]) -> [u8; 128]
+    requires { ⌜ length (now line) ≡ 359 ⌝ }
+    ensures { λ r. ⌜ r ≡ bytesAt (now (line .entry)) 0 128 ⌝ }
+{
+    let mut file = [0u8; 128];
+    let mut i = 0;
+    while i < 128 {
+        file[i] = byte_at(line, 2 * i);
+        i += 1;
+    }
+    file
+}
+
+// The registers, two digits each.
+pub fn put_bytes(out: &mut [u8], at: usize, bytes: &[u8]) -> usize
+    requires { ⌜ (length (now bytes) ≡ 128) × (at + 256 ≤ length (now out)) ⌝ }
+    ensures { λ r. ⌜ Wrote (now (out .entry)) at (bytesText (now (bytes .entry))) r (now (out .exit)) × (r ≡ at + 256) ⌝ }
+{
+    let mut end = at;
+    let mut i = 0;
+    while i < bytes.len() {
+        end = text::put(out, end, &text::hex2(bytes[i]));
+        i += 1;
+    }
+    end
+}
+
+// A tab and a number.
+fn put_field(out: &mut [u8], at: usize, width: usize, n: u64) -> usize
+    requires { ⌜ at + width + 1 ≤ length (now out) ⌝ }
+    ensures { λ r. ⌜ Wrote (now (out .entry)) at (0x09 ∷ hexText width n) r (now (out .exit)) × (r ≡ at + width + 1) ⌝ }
+{
+    let end = text::put(out, at, b"\t");
+    text::put_hex(out, end, width, n)
+}
+
+pub fn put_sets(
+    out: &mut [u8],
+    at: usize,
+    level: u64,
+    reference: u64,
+    held: u64,
+    edge: u64,
+) -> usize
+    requires { ⌜ at + 68 ≤ length (now out) ⌝ }
+    ensures { λ r. ⌜ Wrote (now (out .entry)) at (fieldsText (take 4 (drop 1 widths)) (level ∷ reference ∷ held ∷ edge ∷ [])) r (now (out .exit)) × (r ≡ at + 68) ⌝ }
+{
+    let first = put_field(out, at, 16, level);
+    let second = put_field(out, first, 16, reference);
+    let third = put_field(out, second, 16, held);
+    put_field(out, third, 16, edge)
+}
+
+pub fn put_bus(out: &mut [u8], at: usize, pointer: u8, bus: u8, choice: u8) -> usize
+    requires { ⌜ at + 9 ≤ length (now out) ⌝ }
+    ensures { λ r. ⌜ Wrote (now (out .entry)) at (fieldsText (drop 5 widths) (pointer ∷ bus ∷ choice ∷ [])) r (now (out .exit)) × (r ≡ at + 9) ⌝ }
+{
+    let first = put_field(out, at, 2, pointer as u64);
+    let second = put_field(out, first, 2, bus as u64);
+    put_field(out, second, 2, choice as u64)
+}

@@ -1,0 +1,49 @@
+use native.Mathlib.Omega.{arith}
+use borrow.Author.Needs.{needs}
+use borrow.Author.Tests.{not-true, not-false}
+use mathlib.Core.Path.{sym, _∙_}
+use mathlib.Core.Bool.{false}
+use Rattle.device_rules.specs.declared.Answer.the-variants.{Refused}
+use Rattle.text.proofs.Laws.{wrote-as}
+use Rattle.text_answers.proofs.Laws.{line-short}
+use Rattle.probe_fields.proofs.Reading.{readable-long}
+use Rattle.probe_images.proofs.Spoken.{unreadable-text, probed-text}
+use Rattle.probe_images.proofs.Answered.{step-fits}
+use Rattle.probe_images.proofs.answer_line.Statement.{statement}
+use Rattle.probe_images.proofs.answer_line.Tie as tie
+
+returns : tie.Need-returns
+returns c =
+    let p = c .before .before in
+    let t = p .before .before in (
+      wrote-as (unreadable-text _ (t .before .is-readable .ensures) (not-true _ (t .if1 .taken))) (p .put-line .ensures),
+      omega (arith, p .put-line .ensures .ends, line-short (Refused 7) false 0 0),
+    )
+
+step-in-requires : tie.Need-step-in-requires
+step-in-requires c κs = readable-long _ (sym (c .before .is-readable .ensures) ∙ not-false _ (c .if1 .left))
+
+put-outcome-requires : tie.Need-put-outcome-requires
+put-outcome-requires c κs = (step-fits _ (c .before .before .step-in .ensures), search needs)
+
+returns-2 : tie.Need-returns-2
+returns-2 c =
+    let p = c .before .before in
+    let s = p .before .before .before in
+    let e = s .before in (
+      wrote-as (probed-text _ (e .before .is-readable .ensures) (not-false _ (e .if1 .left)) (s .step-in .ensures)) (p .put-outcome .ensures .0),
+      search needs,
+    )
+
+pub answer-line-spec : {M : Type 1} → statement M
+answer-line-spec =
+    tie.close
+    (tie.spec
+    (λ c κs. search needs)
+    (λ c κs. search needs)
+    (λ c. search needs)
+    returns
+    step-in-requires
+    put-outcome-requires
+    (λ c. search needs)
+    returns-2)

@@ -1,0 +1,45 @@
+-- State images as text: what a line of the probe program says, and the line that answers it. Lines are given without their newline.
+use mathlib.Core.Bool.{cond}
+use mathlib.Core.List.{List, [], _∷_, _++_}
+use Prim.Native.Nat.{ℕ, _-_}
+use lib.ListN.{length, take, drop}
+use Rattle.pins.specs.declared.Sets.{Sets}
+use Rattle.map.specs.Map.{part24}
+use Rattle.registers.specs.Registers.{core}
+use Rattle.device_rules.specs.Device.{State, Outcome, state}
+use Rattle.device_rules.specs.Refusals.{stepped}
+use Rattle.text_answers.specs.Answers.{lineEnd, shownLine, refusedLine}
+use Rattle.probe_fields.specs.Fields.{widths, readable, bytesAt, numberIn, bytesText, fieldsText}
+
+-- ---- what a readable line says
+abbrev pub setsIn : (line : List ℕ) → Sets
+setsIn line = record { level = numberIn line 1; reference = numberIn line 2; held = numberIn line 3; edge = numberIn line 4 }
+
+abbrev pub imageIn : (line : List ℕ) → State
+imageIn line = state (core (bytesAt line 0 128) (setsIn line)) (numberIn line 5) (numberIn line 6) (numberIn line 7)
+
+abbrev pub kindIn : (line : List ℕ) → ℕ
+kindIn line = numberIn line 8
+
+abbrev pub argumentIn : (line : List ℕ) → ℕ
+argumentIn line = numberIn line 9
+
+-- ---- the text of an image
+-- the same fields as a line's, less the event's; a tab before each
+unfoldable pub imageText : State → List ℕ
+imageText s =
+    0x09 ∷ bytesText (s .regs .file)
+    ++ fieldsText (drop 1 widths)
+    (s .regs .sets .level ∷ s .regs .sets .reference ∷ s .regs .sets .held ∷ s .regs .sets .edge ∷ s .pointer ∷ s .bus ∷ s .choice ∷ [])
+
+-- ---- the answer
+abbrev pub unended : (line : List ℕ) → List ℕ
+unended line = take (length line - 1) line
+
+-- as a trace tells the event; then the image after it, which no refusal has, and the newline
+unfoldable pub probeLine : Outcome → List ℕ
+probeLine o = unended (shownLine o) ++ lineEnd (o .answer) (imageText (o .after) ++ (0x0a ∷ []))
+
+-- One step on the image that a line says; refusal 7 where it is not readable.
+unfoldable pub probeText : (line : List ℕ) → List ℕ
+probeText line = cond (readable line) (probeLine (stepped part24 (imageIn line) (kindIn line) (argumentIn line))) (refusedLine 7)

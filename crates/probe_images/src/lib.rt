@@ -1,0 +1,149 @@
+// State images as text: see specs/ for what a line says and what it is answered.
+// The step that a line of the probe program asks, on the image that it says.
+// The text of a step on an image: its answer, and the image after it.
+// A line of the probe program answered, whole or as it comes in pieces.
+ghost use mathlib.Core.Path.{_≡_};
+ghost use lib.ListN.{length};
+ghost use Rattle.map.specs.Map.{part24};
+ghost use Rattle.device_rules.specs.Device.{out as outcome};
+ghost use Rattle.device_rules.specs.Refusals.{stepped, imageFits};
+ghost use Rattle.device.specs.Held.{stateIn};
+ghost use Rattle.probe_images.specs.Images.{imageIn, kindIn, argumentIn, imageText, unended, probeLine, probeText};
+ghost use mathlib.Core.Bool.{true};
+ghost use Prim.Native.Nat.{_+_, _≤_, ℕ};
+ghost use Rattle.device_rules.specs.Answers.{refusalNumber};
+ghost use Rattle.text.specs.Text.{Wrote};
+ghost use Rattle.text_answers.specs.Answers.{shownLine};
+ghost use mathlib.Core.List.{List, [], _++_};
+ghost use Rattle.probe_images.specs.Begun.{Holds};
+use device::Device;
+use device::Stepped;
+use device_rules::Answer;
+use pins::Sets;
+use words_device::PINS;
+
+// The device whose image the line says.
+pub fn device_in(line: &[u8]) -> Device
+    requires { ⌜ length (now line) ≡ 359 ⌝ }
+    ensures { λ d. ⌜ stateIn d ≡ imageIn (now (line .entry)) ⌝ }
+{
+    let sets = Sets {
+        level: probe_fields::word_at(line, 257),
+        reference: probe_fields::word_at(line, 274),
+        held: probe_fields::word_at(line, 291),
+        edge: probe_fields::word_at(line, 308),
+    };
+    Device {
+        file: probe_fields::file_in(line),
+        sets,
+        pointer: probe_fields::byte_at(line, 325),
+        bus: probe_fields::byte_at(line, 328),
+        choice: probe_fields::byte_at(line, 331),
+    }
+}
+
+// The step that the line asks.
+pub fn step_in(line: &[u8]) -> Stepped
+    requires { ⌜ length (now line) ≡ 359 ⌝ }
+    ensures { λ s. ⌜ outcome (s .answer) (stateIn (s .device)) ≡ stepped part24 (imageIn (now (line .entry))) (kindIn (now (line .entry))) (argumentIn (now (line .entry))) ⌝ }
+{
+    let device = device_in(line);
+    let kind = probe_fields::kind_in(line);
+    let arg = probe_fields::word_at(line, 343);
+    device.step(kind, arg)
+}
+
+// The image's fields, a tab before each.
+fn put_image(out: &mut [u8], at: usize, d: Device) -> usize
+    requires { ⌜ at + 334 ≤ length (now out) ⌝ }
+    ensures { λ r. ⌜ Wrote (now (out .entry)) at (imageText (stateIn d)) r (now (out .exit)) × (r ≡ at + 334) ⌝ }
+{
+    let file = d.file;
+    let sets = d.sets;
+    let tab = text::put(out, at, b"\t");
+    let bytes = probe_fields::put_bytes(out, tab, &file);
+    let pins = probe_fields::put_sets(out, bytes, sets.level, sets.reference, sets.held, sets.edge);
+    probe_fields::put_bus(out, pins, d.pointer, d.bus, d.choice)
+}
+
+// The line with which a trace tells an answer, without its newline. A refusal's shows nothing of the device, whose image may be a broken one.
+fn put_answer(out: &mut [u8], at: usize, d: Device, answer: Answer) -> usize
+    requires { ⌜ (refusalNumber answer ≡ 0 → imageFits part24 (stateIn d) ≡ true) × (at + 20 ≤ length (now out)) ⌝ }
+    ensures { λ r. ⌜ Wrote (now (out .entry)) at (unended (shownLine (outcome answer (stateIn d)))) r (now (out .exit)) × (r ≤ at + 20) ⌝ }
+{
+    let file = d.file;
+    let pointer = d.pointer as u64;
+    let bus = d.bus as u64;
+    let choice = d.choice as u64;
+    let mut words = [0u64; 28];
+    let _fits = words_images::pack(&mut words, 0, &file, d.sets, pointer, bus, choice);
+    let int = words_views::int(&words);
+    let low = words_views::low(&words, PINS);
+    let high = words_views::high(&words);
+    let mut line = [0u8; 26];
+    let end = text_answers::put_line(&mut line, 0, answer, int, low, high) - 1;
+    text::put(out, at, &line[0..end])
+}
+
+// The answer, and behind it the image after the step; a refusal has no image.
+pub fn put_outcome(out: &mut [u8], at: usize, d: Device, answer: Answer) -> usize
+    requires { ⌜ (refusalNumber answer ≡ 0 → imageFits part24 (stateIn d) ≡ true) × (at + 360 ≤ length (now out)) ⌝ }
+    ensures { λ r. ⌜ Wrote (now (out .entry)) at (probeLine (outcome answer (stateIn d))) r (now (out .exit)) × (r ≤ at + 360) ⌝ }
+{
+    let told = put_answer(out, at, d, answer);
+    let Answer::Refused(_) = answer else {
+        let image = put_image(out, told, d);
+        return text::put(out, image, b"\n");
+    };
+    text::put(out, told, b"\n")
+}
+
+// One line, without its newline: its answer is written from at on.
+pub fn answer_line(line: &[u8], out: &mut [u8], at: usize) -> usize
+    requires { ⌜ at + 360 ≤ length (now out) ⌝ }
+    ensures { λ r. ⌜ Wrote (now (out .entry)) at (probeText (now (line .entry))) r (now (out .exit)) × (r ≤ at + 360) ⌝ }
+{
+    if !probe_fields::is_readable(line) {
+        return text_answers::put_line(out, at, Answer::Refused(7), false, 0, 0);
+    }
+    let s = step_in(line);
+    let answer = s.answer;
+    let after = s.device;
+    put_outcome(out, at, after, answer)
+}
+
+// A line that has begun, of which 360 bytes are kept: no longer line is readable.
+pub struct Line {
+    pub held: [u8; 360],
+    pub len: usize,
+}
+
+// Before the first byte of a line.
+pub fn begin() -> Line
+    ensures { λ l. ⌜ Holds l [] ⌝ }
+{
+    Line {
+        held: [0; 360],
+        len: 0,
+    }
+}
+
+// The line with these bytes more.
+pub fn grow(line: Line, part: &[u8]) -> Line
+    requires { ⌜ line .len ≤ 360 ⌝ }
+    ensures { λ l. ⌜ (l .len ≤ 360) × ((text : List ℕ) → Holds line text → Holds l (text ++ now (part .entry))) ⌝ }
+{
+    let mut held = line.held;
+    let len = text_pieces::keep(&mut held, line.len, part);
+    Line { held, len }
+}
+
+// The whole line's answer, written from at on.
+pub fn answer(line: Line, out: &mut [u8], at: usize) -> usize
+    requires { ⌜ (line .len ≤ 360) × (at + 360 ≤ length (now out)) ⌝ }
+    ensures { λ r. ⌜ ((text : List ℕ) → Holds line text → Wrote (now (out .entry)) at (probeText text) r (now (out .exit))) × (r ≤ at + 360) ⌝ }
+{
+    let held = line.held;
+    let len = line.len;
+    answer_line(&held[0..len], out, at)
+}

@@ -1,3 +1,0 @@
-pub mod Formed
-pub mod Promise
-pub mod Answer

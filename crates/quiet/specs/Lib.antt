@@ -1,4 +1,0 @@
-pub mod Settings
-pub mod Order
-pub mod Route
-pub mod Quiet

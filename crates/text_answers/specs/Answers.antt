@@ -1,0 +1,41 @@
+-- The line that says an answer, with its newline.
+use mathlib.Core.Bool.{Bool, cond}
+use mathlib.Core.List.{List, [], _∷_, _++_}
+use Prim.Native.Nat.{ℕ, _%_}
+use Rattle.map.specs.Map.{part24}
+use Rattle.registers.specs.Registers.{drivenLow, drivenHigh, intAsserted}
+use Rattle.device_rules.specs.Device.{Outcome}
+use Rattle.device_rules.specs.declared.Answer.{Answer}
+use Rattle.device_rules.specs.declared.Answer.the-variants.{Nothing, Ack, Nak, Byte, Refused}
+use Rattle.text.specs.Text.{digitByte, hexText}
+
+-- `-`, `ack`, `nak`, two hex digits; or `refused`, a tab and the number
+unfoldable pub answerWord : Answer → List ℕ
+answerWord Nothing = 0x2d ∷ []
+answerWord Ack = 0x61 ∷ 0x63 ∷ 0x6b ∷ []
+answerWord Nak = 0x6e ∷ 0x61 ∷ 0x6b ∷ []
+answerWord (Byte b) = hexText 2 b
+answerWord (Refused n) = 0x72 ∷ 0x65 ∷ 0x66 ∷ 0x75 ∷ 0x73 ∷ 0x65 ∷ 0x64 ∷ 0x09 ∷ digitByte (n % 16) ∷ []
+
+-- INT's level, 0 where it is asserted, pins driven low and pins driven high, each after a tab
+unfoldable pub columns : (int : Bool) → (low high : ℕ) → List ℕ
+columns int low high = 0x09 ∷ cond int 0x30 0x31 ∷ 0x09 ∷ hexText 6 low ++ (0x09 ∷ hexText 6 high ++ (0x0a ∷ []))
+
+-- the columns follow an answer, and only the newline a refusal
+abbrev pub lineEnd : Answer → (columns : List ℕ) → List ℕ
+lineEnd Nothing columns = columns
+lineEnd Ack columns = columns
+lineEnd Nak columns = columns
+lineEnd (Byte b) columns = columns
+lineEnd (Refused n) columns = 0x0a ∷ []
+
+unfoldable pub answerLine : Answer → (int : Bool) → (low high : ℕ) → List ℕ
+answerLine answer int low high = answerWord answer ++ lineEnd answer (columns int low high)
+
+-- an event's line: its answer, INT and the pins driven, as they are after it
+unfoldable pub shownLine : Outcome → List ℕ
+shownLine o =
+    answerLine (o .answer) (intAsserted part24 (o .after .regs)) (drivenLow part24 (o .after .regs)) (drivenHigh part24 (o .after .regs))
+
+abbrev pub refusedLine : (number : ℕ) → List ℕ
+refusedLine number = answerWord (Refused number) ++ (0x0a ∷ [])

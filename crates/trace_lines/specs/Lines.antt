@@ -1,0 +1,77 @@
+-- What a line of a log says, given its bytes without the newline.
+use mathlib.Core.Path.{_≡_}
+use mathlib.Core.Bool.{cond}
+use mathlib.Core.List.{List, [], _∷_}
+use Prim.Native.Nat.{ℕ, _≤_}
+use lib.Dec.{ltb}
+use lib.ListN.{length, take, drop}
+use Rattle.text.specs.declared.Digits.{Digits}
+use Rattle.text.specs.declared.Digits.the-variants.{Number, None}
+use Rattle.text.specs.Text.{startsWith, isWord, fieldOf}
+use Rattle.trace_lines.specs.declared.Line.{Line}
+use Rattle.trace_lines.specs.declared.Line.the-variants.{Device, Event, Unreadable}
+
+-- the words; those that a field follows with their tab
+abbrev pub start : List ℕ
+start = 0x73 ∷ 0x74 ∷ 0x61 ∷ 0x72 ∷ 0x74 ∷ []
+
+abbrev pub stop : List ℕ
+stop = 0x73 ∷ 0x74 ∷ 0x6f ∷ 0x70 ∷ []
+
+abbrev pub reset : List ℕ
+reset = 0x72 ∷ 0x65 ∷ 0x73 ∷ 0x65 ∷ 0x74 ∷ []
+
+abbrev pub tab : List ℕ
+tab = 0x09 ∷ []
+
+abbrev pub byte : List ℕ
+byte = 0x62 ∷ 0x79 ∷ 0x74 ∷ 0x65 ∷ tab
+
+abbrev pub fetch : List ℕ
+fetch = 0x66 ∷ 0x65 ∷ 0x74 ∷ 0x63 ∷ 0x68 ∷ tab
+
+abbrev pub pins : List ℕ
+pins = 0x70 ∷ 0x69 ∷ 0x6e ∷ 0x73 ∷ tab
+
+abbrev pub device : List ℕ
+device = 0x64 ∷ 0x65 ∷ 0x76 ∷ 0x69 ∷ 0x63 ∷ 0x65 ∷ tab
+
+-- an event whose argument is the digits' number
+abbrev pub eventWith : (kind : ℕ) → Digits → Line
+eventWith kind (Number arg) = Event kind arg
+eventWith kind None = Unreadable
+
+abbrev pub deviceWith : (choice levels : Digits) → Line
+deviceWith (Number choice) (Number levels) = Device choice levels
+deviceWith (Number choice) None = Unreadable
+deviceWith None levels = Unreadable
+
+-- one digit for a choice, 3 or less; a tab; six for levels
+unfoldable pub deviceOf : List ℕ → Line
+deviceOf s = cond (startsWith tab (drop 1 s)) (deviceWith (fieldOf 1 3 (take 1 s)) (fieldOf 6 0xffffff (drop 2 s))) Unreadable
+
+-- a line with fields: two digits for a byte, 0 or 1 for a fetch, six digits for levels
+unfoldable pub fieldsOf : List ℕ → Line
+fieldsOf s =
+    cond (startsWith byte s) (eventWith 2 (fieldOf 2 0xff (drop 5 s)))
+    (cond (startsWith fetch s) (eventWith 3 (fieldOf 1 1 (drop 6 s)))
+    (cond (startsWith pins s) (eventWith 4 (fieldOf 6 0xffffff (drop 5 s))) (cond (startsWith device s) (deviceOf (drop 7 s)) Unreadable)))
+
+-- Unreadable: a line over 32 bytes, and anything but these.
+unfoldable pub lineOf : List ℕ → Line
+lineOf s =
+    cond (ltb 32 (length s)) Unreadable
+    (cond (isWord start s) (Event 0 0) (cond (isWord stop s) (Event 1 0) (cond (isWord reset s) (Event 5 0) (fieldsOf s))))
+
+-- if they are digits, their number is most or less
+pub record Small (most : ℕ) (d : Digits) : Type 0 where
+  pub small : (n : ℕ) → d ≡ Number n → n ≤ most
+
+-- what an argument of the kind may be at most, where the kind has one
+abbrev pub Taken : (kind arg : ℕ) → Type 0
+Taken kind arg = (kind ≤ 5) × (kind ≡ 2 → arg ≤ 0xff) × (kind ≡ 3 → arg ≤ 1) × (kind ≡ 4 → arg ≤ 0xffffff)
+
+-- if it is a device's line, the device can be made; if it is an event's, the event is not refused for its kind or its argument
+pub record Means (l : Line) : Type 0 where
+  pub makes : (choice levels : ℕ) → l ≡ Device choice levels → (choice ≤ 3) × (levels ≤ 0xffffff)
+  pub takes : (kind arg : ℕ) → l ≡ Event kind arg → Taken kind arg

@@ -1,0 +1,154 @@
+// A whole log in pieces of any size, in bounded memory.
+ghost use mathlib.Core.Path.{_≡_};
+ghost use mathlib.Core.List.{List, []};
+ghost use Prim.Native.Nat.{ℕ, _+_, _*_, _≤_};
+ghost use lib.ListN.{length, drop};
+ghost use Rattle.text.specs.Text.{Wrote};
+ghost use Rattle.trace_session.specs.Tracing.{Kept, Says};
+ghost use Rattle.trace_logs.specs.Logs.{header};
+ghost use Rattle.trace_logs.specs.Pieces.{readingOf, opened, grown, answerOf, given, takenOf, firstGiven, overlaid, heldAtEnd, heldAfter, Gives, Ends};
+
+// How many bytes of the line that has begun are held, and where the answers end.
+pub struct Fed {
+    pub len: usize,
+    pub end: usize,
+}
+
+// The line that has begun, with these bytes: how many of them are held then.
+fn grow(held: &mut [u8; 33], len: usize, part: &[u8]) -> usize
+    requires { ⌜ len ≤ 33 ⌝ }
+    ensures { λ y. ⌜ ((words : List ℕ) → readingOf words (now (held .exit)) y ≡ grown (readingOf words (now (held .entry)) len) (now (part .entry)))
+        × (length (now (held .exit)) ≡ 33) × (y ≤ 33) × (now (held .exit) ≡ overlaid (now (held .entry)) len (now (part .entry))) ⌝ }
+{
+    text_pieces::keep(held, len, part)
+}
+
+// The line that has begun ends with this part: its answer is written from at on.
+fn joined_line(
+    words: &mut [u64; 28],
+    held: &mut [u8; 33],
+    len: usize,
+    part: &[u8],
+    out: &mut [u8],
+    at: usize,
+) -> usize
+    requires { ⌜ Kept (now words) × (len ≤ 33) × (length (now held) ≡ 33) × (at + 26 ≤ length (now out)) ⌝ }
+    ensures { λ end. ⌜ Says (answerOf (grown (readingOf (now (words .entry)) (now (held .entry)) len) (now (part .entry)))) (now (words .entry)) (now (out .entry)) at end (now (out .exit)) (now (words .exit))
+        × (length (now (held .exit)) ≡ 33) × (now (held .exit) ≡ overlaid (now (held .entry)) len (now (part .entry))) ⌝ }
+{
+    let all = grow(held, len, part);
+    let bytes = *held;
+    trace_session::answer_line(words, &bytes[0..all], out, at)
+}
+
+// The same; a line that lies whole in the piece is read where it lies.
+fn end_line(
+    words: &mut [u64; 28],
+    held: &mut [u8; 33],
+    len: usize,
+    part: &[u8],
+    out: &mut [u8],
+    at: usize,
+) -> usize
+    requires { ⌜ Kept (now words) × (len ≤ 33) × (length (now held) ≡ 33) × (at + 26 ≤ length (now out)) ⌝ }
+    ensures { λ end. ⌜ Says (answerOf (grown (readingOf (now (words .entry)) (now (held .entry)) len) (now (part .entry)))) (now (words .entry)) (now (out .entry)) at end (now (out .exit)) (now (words .exit))
+        × (length (now (held .exit)) ≡ 33) × (now (held .exit) ≡ heldAtEnd (now (held .entry)) len (now (part .entry))) ⌝ }
+{
+    if len == 0 {
+        return trace_session::answer_line(words, part, out, at);
+    }
+    joined_line(words, held, len, part, out, at)
+}
+
+// How many bytes are held after a line, where its answer ends, and how much of the piece it took.
+struct Took {
+    len: usize,
+    end: usize,
+    taken: usize,
+}
+
+// The first line of a piece: its answer is written from at on. A piece with no newline is all carried on.
+fn first_line(
+    words: &mut [u64; 28],
+    held: &mut [u8; 33],
+    len: usize,
+    piece: &[u8],
+    out: &mut [u8],
+    at: usize,
+) -> Took
+    requires { ⌜ Kept (now words) × (len ≤ 33) × (length (now held) ≡ 33) × (at + 26 ≤ length (now out)) ⌝ }
+    ensures { λ t. ⌜ Gives (firstGiven (readingOf (now (words .entry)) (now (held .entry)) len) (now (piece .entry))) (now (words .entry)) (now (out .entry)) at (t .end) (now (out .exit)) (now (words .exit)) (now (held .exit)) (t .len)
+        × (t .taken ≡ takenOf (now (piece .entry)))
+        × (heldAfter (now (held .exit)) (t .len) [] (drop (t .taken) (now (piece .entry))) ≡ heldAfter (now (held .entry)) len [] (now (piece .entry))) ⌝ }
+{
+    let newline = text_pieces::newline_at(piece);
+    if piece.len() <= newline {
+        let all = grow(held, len, piece);
+        return Took {
+            len: all,
+            end: at,
+            taken: newline,
+        };
+    }
+    let end = end_line(words, held, len, &piece[0..newline], out, at);
+    Took {
+        len: 0,
+        end,
+        taken: newline + 1,
+    }
+}
+
+// Every complete line of a piece is answered, each line's reader handing the rest onward; the answers are written from at on.
+pub fn feed(
+    words: &mut [u64; 28],
+    held: &mut [u8; 33],
+    len: usize,
+    piece: &[u8],
+    out: &mut [u8],
+    at: usize,
+) -> Fed
+    requires { ⌜ Kept (now words) × (len ≤ 33) × (length (now held) ≡ 33) × (at + 20 * length (now piece) + 6 ≤ length (now out)) ⌝ }
+    ensures { λ f. ⌜ Gives (given (readingOf (now (words .entry)) (now (held .entry)) len) (now (piece .entry))) (now (words .entry)) (now (out .entry)) at (f .end) (now (out .exit)) (now (words .exit)) (now (held .exit)) (f .len)
+        × (f .end ≤ length (now (out .exit))) × (now (held .exit) ≡ heldAfter (now (held .entry)) len [] (now (piece .entry))) ⌝ }
+{
+    let mut rest = piece;
+    let mut count = len;
+    let mut end = at;
+    while 0 < rest.len() {
+        let took = first_line(words, held, count, rest, out, end);
+        let taken = took.taken;
+        count = took.len;
+        end = took.end;
+        rest = &rest[taken..];
+    }
+    Fed { len: count, end }
+}
+
+// Words before a log: no device yet.
+pub fn start() -> [u64; 28]
+    ensures { λ w. ⌜ ((held : List ℕ) → readingOf w held 0 ≡ opened) × Kept w ⌝ }
+{
+    let mut words = [0u64; 28];
+    words[words::PART] = trace_session::NO_PART;
+    words
+}
+
+// Puts the header into out from at on, and says where it ends.
+pub fn put_header(out: &mut [u8], at: usize) -> usize
+    requires { ⌜ at + 20 ≤ length (now out) ⌝ }
+    ensures { λ end. ⌜ Wrote (now (out .entry)) at header end (now (out .exit)) × (end ≤ length (now (out .exit))) ⌝ }
+{
+    text::put(out, at, b"answer\tint\tlow\thigh\n")
+}
+
+// The end of the log: a last line without newline is answered if it holds a byte. Says where the answer ends.
+pub fn finish(words: &mut [u64; 28], held: &[u8], len: usize, out: &mut [u8], at: usize) -> usize
+    requires { ⌜ Kept (now words) × (len ≤ length (now held)) × (at + 26 ≤ length (now out)) ⌝ }
+    ensures { λ end. ⌜ Ends (readingOf (now (words .entry)) (now (held .entry)) len) (now (words .entry)) (now (out .entry)) at end (now (out .exit)) (now (words .exit)) ⌝ }
+{
+    let line = &held[0..len];
+    if line.len() == 0 {
+        return at;
+    }
+    trace_session::answer_line(words, line, out, at)
+}

@@ -1,0 +1,56 @@
+-- One line in, one line out.
+use mathlib.Core.Path.{_≡_}
+use mathlib.Core.Bool.{true, false, cond}
+use mathlib.Core.List.{List}
+use Prim.Native.Nat.{ℕ}
+use lib.Dec.{eqb}
+use lib.ListN.{getD}
+use Rattle.map.specs.Map.{part24}
+use Rattle.device_rules.specs.Device.{State, Outcome, out}
+use Rattle.device_rules.specs.declared.Answer.the-variants.{Nothing}
+use Rattle.device_rules.specs.Refusals.{stepped}
+use Rattle.device_rules.specs.PowerOn.{powerOn}
+use Rattle.words_bus.specs.Packed.{partWord, stateIn, Packed}
+use Rattle.text.specs.Text.{Wrote}
+use Rattle.trace_lines.specs.declared.Line.{Line}
+use Rattle.trace_lines.specs.declared.Line.the-variants.{Device, Event, Unreadable}
+use Rattle.text_answers.specs.Answers.{shownLine, refusedLine}
+
+-- no device yet, or one in this state
+pub data Session : Type 0 where
+  NoDevice : Session
+  With : State → Session
+
+-- what the words hold: a device, once a line has made one; before that they name no part
+abbrev pub sessionOf : (words : List ℕ) → Session
+sessionOf w = cond (eqb (getD w partWord 0) 0) (With (stateIn part24 w)) NoDevice
+
+-- the line that answers, and what there is after it
+pub record Traced : Type 0 where
+  pub line : List ℕ
+  pub after : Session
+
+abbrev pub told : Outcome → Traced
+told o = record { line = shownLine o; after = With (o .after) }
+
+-- refusal 7: nothing changes
+abbrev pub unreadable : Session → Traced
+unreadable x = record { line = refusedLine 7; after = x }
+
+-- An event before a device is unreadable; a device line starts anew.
+unfoldable pub traced : Session → Line → Traced
+traced x Unreadable = unreadable x
+traced x (Device choice levels) = told (out Nothing (powerOn part24 choice levels))
+traced NoDevice (Event kind arg) = unreadable NoDevice
+traced (With s) (Event kind arg) = told (stepped part24 s kind arg)
+
+-- a device that the words hold is well formed: nothing of refusal 3 is left to test
+abbrev pub Kept : (words : List ℕ) → Type 0
+Kept w = eqb (getD w partWord 0) 0 ≡ true → Packed 0 w
+
+-- the line written from at on, and what the words hold after it; where there is still no device, they are as they were
+pub record Says (t : Traced) (words₀ : List ℕ) (out : List ℕ) (at end : ℕ) (left words : List ℕ) : Type 0 where
+  pub says : Wrote out at (t .line) end left
+  pub goes-on : sessionOf words ≡ t .after
+  pub kept : Kept words
+  pub untouched : eqb (getD words partWord 0) 0 ≡ false → words ≡ words₀

@@ -1,5 +1,0 @@
-pub mod Left
-pub mod Testing
-pub mod Resetting
-pub mod Judging
-pub mod Standing

@@ -1,2 +1,0 @@
-pub mod Powering
-pub mod Answering

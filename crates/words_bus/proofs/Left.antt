@@ -1,0 +1,189 @@
+-- Packed words stay packed when their registers and pins, their pointer or their bus state change, and hold the state so changed. Assumes nothing.
+use mathlib.Core.Path.{_≡_, refl, sym, ap, ap₂, _∙_}
+use mathlib.Core.Bool.{Bool, true, false, not, _&&_, _||_}
+use mathlib.Core.List.{List, [], _∷_}
+use Prim.Native.Nat.{ℕ, zero, suc, _+_, _*_, _/_, _%_, _<_}
+use native.Mathlib.Nat.{mod-eq-of-lt}
+use native.Mathlib.Omega.{arith}
+use borrow.Author.Tests.{eqb-true, eqb-false, ltb-true, le-ltb}
+use lib.Arith.{digits-div, digits-mod}
+use lib.Dec.{eqb, ltb}
+use lib.ListN.{getD, set, length-set}
+use lib.Seq.{getD-set-same, getD-set-other}
+use Rattle.bits.specs.Bits.{bit}
+use Rattle.bits.proofs.Decide.{and-left, and-right}
+use Rattle.pins.proofs.AllPins.{same}
+use Rattle.map.specs.Map.{Part, kindAt, code, reserved}
+use Rattle.map.specs.Map.Kind.{Reserved}
+use Rattle.registers.specs.Registers.{Core}
+use Rattle.registers.proofs.Writing.{same as same-core}
+use Rattle.device_rules.specs.Device.{State, Outcome, busAt, state, out, byteIn, step}
+use Rattle.device_rules.specs.Device.Event.{ByteSent}
+use Rattle.device_rules.specs.declared.Answer.{Answer}
+use Rattle.device_rules.specs.declared.Answer.the-variants.{Nothing, Ack, Nak, Byte, Refused}
+use Rattle.device_rules.proofs.Stepping.{same-state, at-bus}
+use Rattle.words.specs.Words.{partOf, coreIn, Fit, Holds}
+use Rattle.words.proofs.Sound.{sound}
+use Rattle.words.proofs.Writing.{file-beside}
+use Rattle.words_rows.specs.Rows.{rowAt}
+use Rattle.words_rows.proofs.Taken.{row-zero}
+use Rattle.words_bus.specs.Packed.{stateIn, answerAt, unused, Packed, Leaves}
+
+-- the unused words
+pub unused-case : (P : ℕ → Type 0) → P 19 → P 20 → P 24 → P 25 → P 26 → (s : ℕ) → unused s ≡ true → P s
+unused-case P a b c d e s u = go (eqb s 19) refl (eqb s 20) refl (eqb s 24) refl (eqb s 25) refl u
+  where
+    go : (p : Bool) → eqb s 19 ≡ p → (q : Bool) → eqb s 20 ≡ q → (r : Bool) → eqb s 24 ≡ r → (t : Bool) → eqb s 25 ≡ t → (p || (q || (ltb 23 s && ltb s 27))) ≡ true → P s
+    go true p q r t x y z u = rw (eqb-true s 19 p) a
+    go false p true r t x y z u = rw (eqb-true s 20 r) b
+    go false p false r true x y z u = rw (eqb-true s 24 x) c
+    go false p false r false x true z u = rw (eqb-true s 25 z) d
+    go false p false r false x false z u =
+        let h : 23 < s = ltb-true 23 s (and-left (ltb 23 s) (ltb s 27) u) in
+        let l : s < 27 = ltb-true s 27 (and-right (ltb 23 s) (ltb s 27) u) in
+        let q : s ≡ 26 = omega (arith, eqb-false s 24 x, eqb-false s 25 z) in
+        rw q e
+
+-- an unused word is past those of registers and pins, and neither the pointer nor the bus state
+unused-past : (s : ℕ) → unused s ≡ true → (18 < s) × (s ≡ 21 → ⊥) × (s ≡ 22 → ⊥)
+unused-past = unused-case (λ s. (18 < s) × (s ≡ 21 → ⊥) × (s ≡ 22 → ⊥))
+    (omega arith, λ z. omega (arith, z), λ z. omega (arith, z)) (omega arith, λ z. omega (arith, z), λ z. omega (arith, z)) (omega arith, λ z. omega (arith, z), λ z. omega (arith, z))
+    (omega arith, λ z. omega (arith, z), λ z. omega (arith, z)) (omega arith, λ z. omega (arith, z), λ z. omega (arith, z))
+
+-- ---- a word past those of registers and pins
+module _ (c : ℕ) (w : List ℕ) (s x : ℕ) (past : 18 < s) where
+  past-other : (t : ℕ) → t < 19 → getD (set w s x) t 0 ≡ getD w t 0
+  past-other t h = getD-set-other w s t x 0 (λ e. omega (arith, e))
+
+  pub core-past : coreIn (partOf c) (set w s x) ≡ coreIn (partOf c) w
+  core-past =
+      same-core (file-beside (partOf c) (sound c) w (set w s x) (λ t h l. past-other t l))
+      (same (past-other 0 (omega arith)) (past-other 1 (omega arith)) (past-other 2 (omega arith)) (past-other 3 (omega arith)))
+
+  pub fit-past : Fit (partOf c) w → Fit (partOf c) (set w s x)
+  fit-past fit = record {
+    full = simp length-set (fit .full);
+    clear = λ t i h e. ap (λ (y : ℕ). bit y i) (past-other t h) ∙ fit .clear t i h e;
+  }
+
+module _ (c : ℕ) (w : List ℕ) (k : Packed c w) where
+  -- registers and pins change
+  pub packed-holds : {u : List ℕ} {after : Core} → Holds (partOf c) w u after → Packed c u
+  packed-holds h = record {
+    known-part = k .known-part;
+    fit = h .fit;
+    none = λ s e. h .rest s (unused-past s e .0) ∙ k .none s e;
+    pointer-known = ap (reserved (partOf c)) (h .rest 21 (omega arith)) ∙ k .pointer-known;
+    bus-small = rw (h .rest 22 (omega arith)) (k .bus-small);
+    choice-small = rw (h .rest 23 (omega arith)) (k .choice-small);
+    part-is = h .rest 27 (omega arith) ∙ k .part-is;
+  }
+
+  -- the pointer changes
+  packed-pointer : (x : ℕ) → reserved (partOf c) x ≡ false → Packed c (set w 21 x)
+  packed-pointer x e = record {
+    known-part = k .known-part;
+    fit = fit-past c w 21 x (omega arith) (k .fit);
+    none = λ s u. getD-set-other w 21 s x 0 (unused-past s u .1) ∙ k .none s u;
+    pointer-known = ap (reserved (partOf c)) (getD-set-same w 21 x 0 (omega (arith, k .fit .full))) ∙ e;
+    bus-small = rw (getD-set-other w 21 22 x 0 (λ z. omega (arith, z))) (k .bus-small);
+    choice-small = rw (getD-set-other w 21 23 x 0 (λ z. omega (arith, z))) (k .choice-small);
+    part-is = getD-set-other w 21 27 x 0 (λ z. omega (arith, z)) ∙ k .part-is;
+  }
+
+  -- the bus state changes
+  packed-bus : (b : ℕ) → b < 8 → Packed c (set w 22 b)
+  packed-bus b h = record {
+    known-part = k .known-part;
+    fit = fit-past c w 22 b (omega arith) (k .fit);
+    none = λ s u. getD-set-other w 22 s b 0 (unused-past s u .2) ∙ k .none s u;
+    pointer-known = ap (reserved (partOf c)) (getD-set-other w 22 21 b 0 (λ z. omega (arith, z))) ∙ k .pointer-known;
+    bus-small = rw (getD-set-same w 22 b 0 (omega (arith, k .fit .full))) h;
+    choice-small = rw (getD-set-other w 22 23 b 0 (λ z. omega (arith, z))) (k .choice-small);
+    part-is = getD-set-other w 22 27 b 0 (λ z. omega (arith, z)) ∙ k .part-is;
+  }
+
+  pub state-pointer : (x : ℕ) → stateIn (partOf c) (set w 21 x) ≡ state (coreIn (partOf c) w) x (getD w 22 0) (getD w 23 0)
+  state-pointer x =
+      same-state (core-past c w 21 x (omega arith)) (getD-set-same w 21 x 0 (omega (arith, k .fit .full)))
+      (getD-set-other w 21 22 x 0 (λ z. omega (arith, z))) (getD-set-other w 21 23 x 0 (λ z. omega (arith, z)))
+
+  pub state-bus : (b : ℕ) → stateIn (partOf c) (set w 22 b) ≡ state (coreIn (partOf c) w) (getD w 21 0) b (getD w 23 0)
+  state-bus b =
+      same-state (core-past c w 22 b (omega arith)) (getD-set-other w 22 21 b 0 (λ z. omega (arith, z)))
+      (getD-set-same w 22 b 0 (omega (arith, k .fit .full))) (getD-set-other w 22 23 b 0 (λ z. omega (arith, z)))
+
+-- ---- what is left
+module _ (c : ℕ) (w : List ℕ) (k : Packed c w) (a : Answer) where
+  pub left-same : {o : Outcome} → out a (stateIn (partOf c) w) ≡ o → Leaves c w a o
+  left-same q = record { outcome = q; packed = k }
+
+  pub left-bus : (b : ℕ) → b < 8 → {o : Outcome} → out a (state (coreIn (partOf c) w) (getD w 21 0) b (getD w 23 0)) ≡ o → Leaves c (set w 22 b) a o
+  left-bus b h q = record { outcome = ap (out a) (state-bus c w k b) ∙ q; packed = packed-bus c w k b h }
+
+  pub left-pointer : (x : ℕ) → reserved (partOf c) x ≡ false → {o : Outcome} → out a (state (coreIn (partOf c) w) x (getD w 22 0) (getD w 23 0)) ≡ o → Leaves c (set w 21 x) a o
+  left-pointer x h q = record { outcome = ap (out a) (state-pointer c w k x) ∙ q; packed = packed-pointer c w k x h }
+
+  -- the answer and the words as a function has them
+  pub went : (b : ℕ) → b < 8 → {a' : Answer} {w' : List ℕ} {o : Outcome} → a' ≡ a → w' ≡ set w 22 b
+      → out a (state (coreIn (partOf c) w) (getD w 21 0) b (getD w 23 0)) ≡ o → Leaves c w' a' o
+  went b h ea ew q = rw (ea, ew) (left-bus b h q)
+
+-- the same after a change of registers and pins
+module _ (c : ℕ) (w u : List ℕ) (k : Packed c w) (after : Core) (h : Holds (partOf c) w u after) (a : Answer) where
+  -- what the rest of the state is then
+  beside : (s : ℕ) → 18 < s → getD u s 0 ≡ getD w s 0
+  beside = h .rest
+
+  pub holds-left : {o : Outcome} → out a (state after (getD w 21 0) (getD w 22 0) (getD w 23 0)) ≡ o → Leaves c u a o
+  holds-left q =
+      left-same c u (packed-holds c w k h) a
+      (ap (out a) (same-state (h .core) (beside 21 (omega arith)) (beside 22 (omega arith)) (beside 23 (omega arith))) ∙ q)
+
+  pub holds-bus : (b : ℕ) → b < 8 → {o : Outcome} → out a (state after (getD w 21 0) b (getD w 23 0)) ≡ o → Leaves c (set u 22 b) a o
+  holds-bus b l q =
+      left-bus c u (packed-holds c w k h) a b l (ap (out a) (same-state (h .core) (beside 21 (omega arith)) refl (beside 23 (omega arith))) ∙ q)
+
+  pub holds-pointer : (x : ℕ) → reserved (partOf c) x ≡ false → {o : Outcome} → out a (state after x (getD w 22 0) (getD w 23 0)) ≡ o → Leaves c (set u 21 x) a o
+  holds-pointer x l q =
+      left-pointer c u (packed-holds c w k h) a x l (ap (out a) (same-state (h .core) refl (beside 22 (omega arith)) (beside 23 (omega arith))) ∙ q)
+
+pub chose : (c : ℕ) (w : List ℕ) → Packed c w → (a : Answer) (x b : ℕ) → reserved (partOf c) x ≡ false → b < 8 → {a' : Answer} {w' : List ℕ} {o : Outcome}
+    → a' ≡ a → w' ≡ set (set w 21 x) 22 b → out a (state (coreIn (partOf c) w) x b (getD w 23 0)) ≡ o → Leaves c w' a' o
+chose c w k a x b e h ea ew q =
+    went c (set w 21 x) (packed-pointer c w k x e) a b h ea ew
+    (ap (λ (s : State). out a (state (s .regs) (s .pointer) b (s .choice))) (state-pointer c w k x) ∙ q)
+
+-- ---- a command
+pub over : (p : Part) (v : ℕ) → 127 < v → reserved p v ≡ true
+unfolding reserved
+over p v h = ap (λ (t : Bool). not t || eqb (code (kindAt p v)) (code Reserved)) (le-ltb v 128 h)
+
+pub command-row : (part row v : ℕ) → v < 128 → row ≡ rowAt (partOf part) (v % 128) → eqb row 0 ≡ reserved (partOf part) v
+command-row part row v h e = let q : v % 128 ≡ v = mod-eq-of-lt h in row-zero row part v h (e ∙ ap (rowAt (partOf part)) q)
+
+-- the rule of the bus state is the step's
+pub in-bus : (c : ℕ) (w : List ℕ) (v n : ℕ) {w' : List ℕ} {a : Answer} → getD w 22 0 ≡ n → Leaves c w' a (byteIn (partOf c) (busAt n) (stateIn (partOf c) w) v)
+    → Leaves c w' a (step (partOf c) (stateIn (partOf c) w) (ByteSent v))
+in-bus c w v n e l = record { outcome = at-bus (partOf c) (stateIn (partOf c) w) v n e (l .outcome); packed = l .packed }
+
+pub by-rule : {c : ℕ} {w : List ℕ} {a : Answer} {o o' : Outcome} → Leaves c w a o → o ≡ o' → Leaves c w a o'
+by-rule l q = record { outcome = l .outcome ∙ q; packed = l .packed }
+
+-- ---- answers as numbers
+pub byte-answer : (b : ℕ) → b < 256 → answerAt (b * 256 + 3) ≡ Byte b
+byte-answer b h =
+    let q : (b * 256 + 3) / 256 ≡ b = digits-div b (omega arith) in
+    let r : (b * 256 + 3) % 256 ≡ 3 = digits-mod b (omega arith) in
+    let z : b % 256 ≡ b = mod-eq-of-lt h in
+    ap₂ (λ (k v : ℕ). getD (Nothing ∷ Ack ∷ Nak ∷ Byte v ∷ []) k (Refused v)) r (ap (λ (x : ℕ). x % 256) q ∙ z)
+
+pub answer-by : (n k : ℕ) → n % 256 ≡ k → getD (Nothing ∷ Ack ∷ Nak ∷ Byte (n / 256 % 256) ∷ []) k (Refused (n / 256 % 256)) ≡ answerAt n
+answer-by n k e = ap (λ (k : ℕ). getD (Nothing ∷ Ack ∷ Nak ∷ Byte (n / 256 % 256) ∷ []) k (Refused (n / 256 % 256))) (sym e)
+
+pub answer-rest : (n k : ℕ) → n % 256 ≡ k → (k ≡ 0 → ⊥) → (k ≡ 1 → ⊥) → (k ≡ 2 → ⊥) → (k ≡ 3 → ⊥) → Refused (n / 256 % 256) ≡ answerAt n
+answer-rest n zero e a b c d = absurd (a refl)
+answer-rest n (suc zero) e a b c d = absurd (b refl)
+answer-rest n (suc (suc zero)) e a b c d = absurd (c refl)
+answer-rest n (suc (suc (suc zero))) e a b c d = absurd (d refl)
+answer-rest n (suc (suc (suc (suc k)))) e a b c d = answer-by n (suc (suc (suc (suc k)))) e

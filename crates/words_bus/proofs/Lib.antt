@@ -1,0 +1,5 @@
+pub mod Judging
+pub mod Left
+pub mod Resetting
+pub mod Standing
+pub mod Testing

@@ -1,0 +1,73 @@
+-- `word_bus::fetch`: in Sending what the register shows and does, elsewhere nothing. Assumes nothing.
+use borrow.Author.Needs.{needs}
+use mathlib.Core.Path.{refl, ap}
+use native.Mathlib.Omega.{arith}
+use lib.ListN.{getD}
+use Rattle.device_rules.specs.Device.{fetchIn}
+use Rattle.device_rules.specs.declared.Answer.the-variants.{Byte}
+use Rattle.device_rules.proofs.Stepping.{same-state, same-outcome, sending, stray-fetch}
+use Rattle.words.specs.Words.{partOf}
+use Rattle.words_rows.proofs.Taken.{next-known, known-inside}
+use Rattle.words_bus.specs.Packed.{stateIn}
+use Rattle.words_bus.proofs.Left.{left-same, holds-bus, holds-pointer}
+use Rattle.words_bus.proofs.Standing.{known-row}
+use Rattle.words_bus.proofs.fetch.Statement.{statement}
+use Rattle.words_bus.proofs.fetch.Tie as tie
+
+returns : tie.Need-returns
+returns c =
+    let a = c .before .before .before .args in
+    λ k packed e.
+    rw (c .read .ensures)
+    (left-same k (a .words .now) packed (Byte 255) (stray-fetch (partOf k) (stateIn (partOf k) (a .words .now)) (a .acknowledged) (c .before .if1 .taken)))
+
+returns-2 : tie.Need-returns-2
+unfolding fetchIn
+returns-2 c =
+    let next = c .before in
+    let settle = next .before .before in
+    let show = settle .before .before in
+    let sends = show .before .before in
+    let a = sends .before .before .args in
+    let n = getD (a .words .now) 21 0 in
+    λ k packed e.
+    let q = next .successor .ensures k n (packed .pointer-known) e in
+    rw (c .read2 .ensures)
+    (holds-pointer k (a .words .now) _ packed _ (settle .settle .ensures k n (packed .pointer-known) e (packed .fit)) (Byte (show .show .result)) (next .successor .result)
+    (rw q (next-known (a .row) k n (packed .pointer-known) e))
+    (sending (partOf k) (stateIn (partOf k) (a .words .now)) (a .acknowledged) (sends .if1 .left)
+    (same-outcome (ap Byte (show .show .ensures k n (packed .pointer-known) e (packed .fit))) (simp (next .before .if2 .taken) (same-state refl q (sends .if1 .left) refl)))))
+
+returns-3 : tie.Need-returns-3
+unfolding fetchIn
+returns-3 c =
+    let settle = c .before .before in
+    let show = settle .before .before in
+    let sends = show .before .before in
+    let a = sends .before .before .args in
+    let n = getD (a .words .now) 21 0 in
+    λ k packed e.
+    rw (c .read3 .ensures)
+    (holds-bus k (a .words .now) _ packed _ (settle .settle .ensures k n (packed .pointer-known) e (packed .fit)) (Byte (show .show .result)) 7 (omega arith)
+    (sending (partOf k) (stateIn (partOf k) (a .words .now)) (a .acknowledged) (sends .if1 .left)
+    (same-outcome (ap Byte (show .show .ensures k n (packed .pointer-known) e (packed .fit))) (simp (c .before .if2 .left) refl))))
+
+show-requires : tie.Need-show-requires
+show-requires c κs = known-inside (known-row _ _ (c .before .before .before .pre))
+
+pub fetch-spec : {M : Type 1} → statement M
+fetch-spec =
+    tie.close
+    (tie.spec
+    (λ c. search needs)
+    (λ c κs. search needs)
+    returns
+    show-requires
+    (λ c κs. search needs)
+    (λ c κs. search needs)
+    (λ c. search needs)
+    (λ c κs. search needs)
+    returns-2
+    (λ c. search needs)
+    (λ c κs. search needs)
+    returns-3)

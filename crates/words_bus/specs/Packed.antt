@@ -1,0 +1,90 @@
+-- The state that the words hold, which words are the packing of a well-formed image, and what a step on them promises.
+use mathlib.Core.Path.{_≡_}
+use mathlib.Core.Bool.{Bool, false, true, _&&_, _||_}
+use mathlib.Core.List.{List, [], _∷_}
+use Prim.Native.Nat.{ℕ, zero, suc, _-_, _/_, _%_, _^_, _<_}
+use lib.Bits.{bitOr}
+use lib.Dec.{eqb, ltb}
+use lib.ListN.{getD}
+use Rattle.map.specs.Map.{Part, reserved}
+use Rattle.device_rules.specs.Device.{State, Outcome, state, out}
+use Rattle.device_rules.specs.declared.Answer.{Answer}
+use Rattle.device_rules.specs.declared.Answer.the-variants.{Nothing, Ack, Nak, Byte, Refused}
+use Rattle.device_rules.specs.Refusals.{stepped}
+use Rattle.words.specs.Words.{partOf, coreIn, wideOf, portKindWord, debounceEnableWord, debounceCountWord, Fit}
+use Rattle.words_rows.specs.Rows.{rowAt}
+
+abbrev pub pointerWord : ℕ
+pointerWord = 21
+
+abbrev pub busWord : ℕ
+busWord = 22
+
+abbrev pub choiceWord : ℕ
+choiceWord = 23
+
+abbrev pub partWord : ℕ
+partWord = 27
+
+abbrev pub stateIn : Part → List ℕ → State
+stateIn p w = state (coreIn p w) (getD w pointerWord 0) (getD w busWord 0) (getD w choiceWord 0)
+
+-- words that nothing uses yet
+abbrev pub unused : ℕ → Bool
+unused s = eqb s 19 || (eqb s 20 || (ltb 23 s && ltb s 27))
+
+-- the words are the packing of a well-formed image of part c
+pub record Packed (c : ℕ) (w : List ℕ) : Type 0 where
+  pub known-part : c < 2
+  pub fit : Fit (partOf c) w
+  pub none : (s : ℕ) → unused s ≡ true → getD w s 0 ≡ 0
+  pub pointer-known : reserved (partOf c) (getD w pointerWord 0) ≡ false
+  pub bus-small : getD w busWord 0 < 8
+  pub choice-small : getD w choiceWord 0 < 4
+  pub part-is : getD w partWord 0 ≡ c
+
+-- the words are the packing of a well-formed image of the part that they name, and the row is that of a number of it
+pub record Standing (row number : ℕ) (w : List ℕ) : Type 0 where
+  pub packed : Packed (getD w partWord 0) w
+  pub row-is : row ≡ rowAt (partOf (getD w partWord 0)) number
+
+-- an answer as one number: its kind, and from bit 8 on the byte read or the refusal's number
+abbrev pub answerAt : ℕ → Answer
+answerAt n = getD (Nothing ∷ Ack ∷ Nak ∷ Byte (n / 256 % 256) ∷ []) (n % 256) (Refused (n / 256 % 256))
+
+-- the answer and the words left: those of the outcome, and packed again
+pub record Leaves (c : ℕ) (w : List ℕ) (answer : Answer) (o : Outcome) : Type 0 where
+  pub outcome : out answer (stateIn (partOf c) w) ≡ o
+  pub packed : Packed c w
+
+-- a step from the words w to w': by the rules where w is packed; refused with 3 where it is not; refused, nothing is changed
+pub record Steps (c : ℕ) (w w' : List ℕ) (kind arg : ℕ) (answer : Answer) : Type 0 where
+  pub taken : Packed c w → Leaves c w' answer (stepped (partOf c) (stateIn (partOf c) w) kind arg)
+  pub broken : (Packed c w → ⊥) → answer ≡ Refused 3
+  pub refused : (n : ℕ) → answer ≡ Refused n → w' ≡ w
+
+-- what the image test asks of the words alone, the pointer's register apart
+pub record Bounded (c : ℕ) (w : List ℕ) : Type 0 where
+  pub fit : Fit (partOf c) w
+  pub none : (s : ℕ) → unused s ≡ true → getD w s 0 ≡ 0
+  pub pointer-small : getD w pointerWord 0 < 128
+  pub bus-small : getD w busWord 0 < 8
+  pub choice-small : getD w choiceWord 0 < 4
+  pub part-is : getD w partWord 0 ≡ c
+
+-- the bits that exist in each word of the part: of a pin set, of the output port kind, of debounce enable and of debounce count
+pub record Limits (c pins kinds enables counts : ℕ) : Type 0 where
+  pub pins-are : pins ≡ 2 ^ partOf c .width - 1
+  pub kinds-are : kinds ≡ 2 ^ wideOf (partOf c) portKindWord - 1
+  pub enables-are : enables ≡ 2 ^ wideOf (partOf c) debounceEnableWord - 1
+  pub counts-are : counts ≡ 2 ^ wideOf (partOf c) debounceCountWord - 1
+
+-- the bits that some word up to n has
+abbrev pub unionTo : List ℕ → ℕ → ℕ
+unionTo w zero = getD w 0 0
+unionTo w (suc n) = bitOr (unionTo w n) (getD w (suc n) 0)
+
+-- the words after a reset but for the pins
+abbrev pub resetWords : (pins choice part : ℕ) → List ℕ
+resetWords pins choice part =
+    0 ∷ 0 ∷ 0 ∷ 0 ∷ pins ∷ 0 ∷ pins ∷ 0 ∷ 0 ∷ 0 ∷ pins ∷ 0 ∷ 0 ∷ pins ∷ pins ∷ 0 ∷ pins ∷ 0 ∷ 0 ∷ 0 ∷ 0 ∷ 0 ∷ 0 ∷ choice ∷ 0 ∷ 0 ∷ 0 ∷ part ∷ []

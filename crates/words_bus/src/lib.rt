@@ -1,0 +1,389 @@
+// The bus on words that are lent: every event with every refusal, for either part.
+ghost use mathlib.Core.Path.{_≡_};
+ghost use mathlib.Core.Bool.{true, false};
+ghost use Prim.Native.Nat.{ℕ, _-_, _/_, _%_, _^_};
+ghost use lib.Bits.{bitOr};
+ghost use lib.ListN.{getD, set};
+ghost use Rattle.bits.specs.Bits.{without};
+ghost use Rattle.device_rules.specs.Device.{out, byteIn, resetted, step as stepOf};
+ghost use Rattle.device_rules.specs.Device.Bus.{Opened, Chosen, Filling, Call};
+ghost use Rattle.device_rules.specs.Device.Event.{Stop, ByteSent, ByteFetched};
+ghost use Rattle.device_rules.specs.declared.Answer.the-variants.{Byte};
+ghost use Rattle.device_rules.specs.Refusals.{stepped};
+ghost use Rattle.words.specs.Words.{partOf};
+ghost use Rattle.words_rows.specs.Rows.{rowAt};
+ghost use Rattle.words_bus.specs.Packed.{stateIn, answerAt, unionTo, Packed, Standing, Leaves, Steps, Bounded, Limits};
+use device_rules::Answer;
+use words::BUS;
+use words::CHOICE;
+use words::PART;
+use words::POINTER;
+
+// Bus states.
+const IDLE: u64 = 0;
+
+const OPENED: u64 = 1;
+
+const CHOSEN: u64 = 2;
+
+const FILLING: u64 = 3;
+
+const SENDING: u64 = 4;
+
+const CALL: u64 = 5;
+
+const ARMED: u64 = 6;
+
+const DEAF: u64 = 7;
+
+// Event kinds.
+const START: u32 = 0;
+
+const STOP: u32 = 1;
+
+const BYTE: u32 = 2;
+
+const FETCH: u32 = 3;
+
+const LEVELS: u32 = 4;
+
+const RESET: u32 = 5;
+
+// Answers as one number each, which is handed back in a register: an enum would be stored in parts and loaded whole.
+const NOTHING: u32 = 0;
+
+const ACK: u32 = 1;
+
+const NAK: u32 = 2;
+
+const WRONG_KIND: u32 = 0x104;
+
+const WRONG_ARGUMENT: u32 = 0x204;
+
+const WRONG_IMAGE: u32 = 0x304;
+
+// A byte read.
+fn read(byte: u8) -> u32
+    ensures { λ a. ⌜ answerAt a ≡ Byte byte ⌝ }
+{
+    byte as u32 * 256 + 3
+}
+
+// An answer that is given as a number.
+pub fn answer(number: u32) -> Answer
+    ensures { λ a. ⌜ a ≡ answerAt number ⌝ }
+{
+    let kind = number % 256;
+    let value = (number / 256 % 256) as u8;
+    match kind {
+        0 => Answer::Nothing,
+        1 => Answer::Ack,
+        2 => Answer::Nak,
+        3 => Answer::Byte(value),
+        _ => Answer::Refused(value),
+    }
+}
+
+// The bus goes to a state, with that answer.
+fn goes(words: &mut [u64; 28], bus: u64, answer: u32) -> u32
+    ensures { λ a. ⌜ (a ≡ answer) × (now (words .exit) ≡ set (now (words .entry)) 22 bus) ⌝ }
+{
+    words[BUS] = bus;
+    answer
+}
+
+// A byte in Opened: the address with its direction, or the general call.
+fn byte_opened(words: &mut [u64; 28], value: u8) -> u32
+    requires { ⌜ Packed (getD (now words) 27 0) (now words) ⌝ }
+    ensures { λ a. ⌜ ((c : ℕ) → Packed c (now (words .entry)) → Leaves c (now (words .exit)) (answerAt a) (byteIn (partOf c) Opened (stateIn (partOf c) (now (words .entry))) value)) ⌝ }
+{
+    let address = 2 * (0x20 + words[CHOICE]);
+    let byte = value as u64;
+    if byte == address {
+        return goes(words, CHOSEN, ACK);
+    }
+    if byte == address + 1 {
+        return goes(words, SENDING, ACK);
+    }
+    if byte == 0 {
+        return goes(words, CALL, ACK);
+    }
+    goes(words, DEAF, NAK)
+}
+
+// A byte in Chosen: the command, whose row is given.
+fn byte_chosen(words: &mut [u64; 28], wanted: u32, value: u8) -> u32
+    requires { ⌜ Standing wanted (value % 128) (now words) ⌝ }
+    ensures { λ a. ⌜ ((c : ℕ) → Packed c (now (words .entry)) → wanted ≡ rowAt (partOf c) (value % 128)
+        → Leaves c (now (words .exit)) (answerAt a) (byteIn (partOf c) Chosen (stateIn (partOf c) (now (words .entry))) value)) ⌝ }
+{
+    if 127 < value {
+        return goes(words, DEAF, NAK);
+    }
+    if wanted == 0 {
+        return goes(words, DEAF, NAK);
+    }
+    words[POINTER] = value as u64;
+    goes(words, FILLING, ACK)
+}
+
+// A byte in Filling: the register at the pointer, whose row is given, is written, and the pointer steps.
+fn byte_filling(words: &mut [u64; 28], row: u32, value: u8) -> u32
+    requires { ⌜ Standing row (getD (now words) 21 0) (now words) × (getD (now words) 22 0 ≡ 3) ⌝ }
+    ensures { λ a. ⌜ ((c : ℕ) → Packed c (now (words .entry)) → getD (now (words .entry)) 22 0 ≡ 3 → row ≡ rowAt (partOf c) (getD (now (words .entry)) 21 0)
+        → Leaves c (now (words .exit)) (answerAt a) (byteIn (partOf c) Filling (stateIn (partOf c) (now (words .entry))) value)) ⌝ }
+{
+    words_writes::write_register(words, row, value);
+    let next = words_rows::successor(row);
+    words[POINTER] = next;
+    ACK
+}
+
+// A byte in Call: software reset, or nothing.
+fn byte_call(words: &mut [u64; 28], value: u8) -> u32
+    requires { ⌜ Packed (getD (now words) 27 0) (now words) ⌝ }
+    ensures { λ a. ⌜ ((c : ℕ) → Packed c (now (words .entry)) → Leaves c (now (words .exit)) (answerAt a) (byteIn (partOf c) Call (stateIn (partOf c) (now (words .entry))) value)) ⌝ }
+{
+    if value == 6 {
+        return goes(words, ARMED, ACK);
+    }
+    goes(words, DEAF, NAK)
+}
+
+// A byte from the master, which is not a command.
+fn byte(words: &mut [u64; 28], row: u32, value: u8) -> u32
+    requires { ⌜ Standing row (getD (now words) 21 0) (now words) × (getD (now words) 22 0 ≡ 2 → ⊥) ⌝ }
+    ensures { λ a. ⌜ ((c : ℕ) → Packed c (now (words .entry)) → (getD (now (words .entry)) 22 0 ≡ 2 → ⊥) → row ≡ rowAt (partOf c) (getD (now (words .entry)) 21 0)
+        → Leaves c (now (words .exit)) (answerAt a) (stepOf (partOf c) (stateIn (partOf c) (now (words .entry))) (ByteSent value))) ⌝ }
+{
+    let bus = words[BUS];
+    match bus {
+        OPENED => byte_opened(words, value),
+        FILLING => byte_filling(words, row, value),
+        CALL => byte_call(words, value),
+        IDLE => NAK,
+        _ => goes(words, DEAF, NAK),
+    }
+}
+
+// A byte fetched by the master.
+fn fetch(words: &mut [u64; 28], row: u32, acknowledged: bool) -> u32
+    requires { ⌜ Standing row (getD (now words) 21 0) (now words) ⌝ }
+    ensures { λ a. ⌜ ((c : ℕ) → Packed c (now (words .entry)) → row ≡ rowAt (partOf c) (getD (now (words .entry)) 21 0)
+        → Leaves c (now (words .exit)) (answerAt a) (stepOf (partOf c) (stateIn (partOf c) (now (words .entry))) (ByteFetched acknowledged))) ⌝ }
+{
+    if words[BUS] != SENDING {
+        return read(0xff);
+    }
+    let shown = words_views::show(&*words, row);
+    words_views::settle(words, row);
+    if acknowledged {
+        words[POINTER] = words_rows::successor(row);
+        return read(shown);
+    }
+    words[BUS] = DEAF;
+    read(shown)
+}
+
+// Any reset, of a part whose pins are these.
+fn reset(words: &mut [u64; 28], pins: u64)
+    requires { ⌜ Packed (getD (now words) 27 0) (now words) × (pins ≡ 2 ^ partOf (getD (now words) 27 0) .width - 1) ⌝ }
+    ensures { λ r. ⌜ ((c : ℕ) → Packed c (now (words .entry)) → pins ≡ 2 ^ partOf c .width - 1
+        → Leaves c (now (words .exit)) Answer.Nothing (out Answer.Nothing (resetted (partOf c) (stateIn (partOf c) (now (words .entry)))))) ⌝ }
+{
+    let x = words::sets_in(&*words);
+    let y = pins_marks::reset_pins(x);
+    let choice = words[CHOICE];
+    let part = words[PART];
+    *words = [
+        y.level,
+        y.reference,
+        y.held,
+        y.edge,
+        pins,
+        0,
+        pins,
+        0,
+        0,
+        0,
+        pins,
+        0,
+        0,
+        pins,
+        pins,
+        0,
+        pins,
+        0,
+        0,
+        0,
+        0,
+        0,
+        0,
+        choice,
+        0,
+        0,
+        0,
+        part,
+    ];
+}
+
+// STOP.
+fn stop(words: &mut [u64; 28], pins: u64) -> u32
+    requires { ⌜ Packed (getD (now words) 27 0) (now words) × (pins ≡ 2 ^ partOf (getD (now words) 27 0) .width - 1) ⌝ }
+    ensures { λ a. ⌜ ((c : ℕ) → Packed c (now (words .entry)) → pins ≡ 2 ^ partOf c .width - 1
+        → Leaves c (now (words .exit)) (answerAt a) (stepOf (partOf c) (stateIn (partOf c) (now (words .entry))) Stop)) ⌝ }
+{
+    if words[BUS] == ARMED {
+        reset(words, pins);
+        return NOTHING;
+    }
+    goes(words, IDLE, NOTHING)
+}
+
+// The bits that are set in some word of registers or pins.
+fn union(words: &[u64; 28]) -> u64
+    ensures { λ s. ⌜ s ≡ unionTo (now (words .entry)) 18 ⌝ }
+{
+    let low = words[0] | words[1] | words[2] | words[3] | words[4] | words[5] | words[6];
+    let more = low | words[7] | words[8] | words[9] | words[10] | words[11] | words[12];
+    more | words[13] | words[14] | words[15] | words[16] | words[17] | words[18]
+}
+
+// What is set in the words of registers and pins, and does not exist.
+fn spare(words: &[u64; 28], pins: u64, kinds: u64, enables: u64, counts: u64) -> u64
+    ensures { λ s. ⌜ s ≡ bitOr (bitOr (bitOr (without (unionTo (now (words .entry)) 18) pins) (without (getD (now (words .entry)) 7 0) kinds))
+        (without (getD (now (words .entry)) 17 0) enables)) (without (getD (now (words .entry)) 18 0) counts) ⌝ }
+{
+    let any = union(words);
+    let kind = words[7];
+    let enable = words[17];
+    let count = words[18];
+    (any ^ (any & pins))
+        | (kind ^ (kind & kinds))
+        | (enable ^ (enable & enables))
+        | (count ^ (count & counts))
+}
+
+// What is set in the other words, and may not be.
+fn odd(words: &[u64; 28]) -> u64
+    ensures { λ s. ⌜ s ≡ bitOr (bitOr (bitOr (bitOr (bitOr (bitOr (bitOr (getD (now (words .entry)) 21 0 / 2 ^ 7) (getD (now (words .entry)) 22 0 / 2 ^ 3))
+        (getD (now (words .entry)) 23 0 / 2 ^ 2)) (getD (now (words .entry)) 19 0)) (getD (now (words .entry)) 20 0)) (getD (now (words .entry)) 24 0))
+        (getD (now (words .entry)) 25 0)) (getD (now (words .entry)) 26 0) ⌝ }
+{
+    let small = (words[POINTER] >> 7) | (words[BUS] >> 3) | (words[CHOICE] >> 2);
+    small | words[19] | words[20] | words[24] | words[25] | words[26]
+}
+
+// Whether the words may stand, the pointer's register apart.
+pub fn bounded(
+    words: &[u64; 28],
+    pins: u64,
+    kinds: u64,
+    enables: u64,
+    counts: u64,
+    part: u64,
+) -> bool
+    ensures { λ r. ⌜ ((c : ℕ) → Limits c pins kinds enables counts → part ≡ c
+        → (r ≡ true → Bounded c (now (words .entry))) × (Bounded c (now (words .entry)) → r ≡ true)) ⌝ }
+{
+    let _count = words::counted(words);
+    if words[PART] != part {
+        return false;
+    }
+    spare(words, pins, kinds, enables, counts) | odd(words) == 0
+}
+
+// Whether the event is a command.
+pub fn is_command(words: &[u64; 28], kind: u32) -> bool
+    ensures { λ r. ⌜ (r ≡ true → (kind ≡ 2) × (getD (now (words .entry)) 22 0 ≡ 2)) × (r ≡ false → kind ≡ 2 → getD (now (words .entry)) 22 0 ≡ 2 → ⊥) ⌝ }
+{
+    if kind == BYTE {
+        return words[BUS] == CHOSEN;
+    }
+    false
+}
+
+// A command on packed words, its row given.
+pub fn command(words: &mut [u64; 28], row: u32, arg: u64) -> u32
+    requires { ⌜ Standing row (arg % 128) (now words) × (getD (now words) 22 0 ≡ 2) ⌝ }
+    ensures { λ a. ⌜ ((c : ℕ) → Packed c (now (words .entry)) → getD (now (words .entry)) 22 0 ≡ 2 → row ≡ rowAt (partOf c) (arg % 128)
+        → Leaves c (now (words .exit)) (answerAt a) (stepped (partOf c) (stateIn (partOf c) (now (words .entry))) 2 arg)) ⌝ }
+{
+    if 255 < arg {
+        return WRONG_ARGUMENT;
+    }
+    byte_chosen(words, row, arg as u8)
+}
+
+// Any other event on packed words, the row of the register at the pointer given.
+pub fn event(words: &mut [u64; 28], pins: u64, row: u32, kind: u32, arg: u64) -> u32
+    requires { ⌜ Standing row (getD (now words) 21 0) (now words) × (pins ≡ 2 ^ partOf (getD (now words) 27 0) .width - 1)
+        × (kind ≡ 2 → getD (now words) 22 0 ≡ 2 → ⊥) ⌝ }
+    ensures { λ a. ⌜ ((c : ℕ) → Packed c (now (words .entry)) → pins ≡ 2 ^ partOf c .width - 1 → row ≡ rowAt (partOf c) (getD (now (words .entry)) 21 0)
+        → (kind ≡ 2 → getD (now (words .entry)) 22 0 ≡ 2 → ⊥) → Leaves c (now (words .exit)) (answerAt a) (stepped (partOf c) (stateIn (partOf c) (now (words .entry))) kind arg)) ⌝ }
+{
+    match kind {
+        START => goes(words, OPENED, NOTHING),
+        STOP => stop(words, pins),
+        BYTE => {
+            if 255 < arg {
+                return WRONG_ARGUMENT;
+            }
+            byte(words, row, arg as u8)
+        }
+        FETCH => {
+            if 1 < arg {
+                return WRONG_ARGUMENT;
+            }
+            fetch(words, row, arg == 1)
+        }
+        LEVELS => {
+            if pins < arg {
+                return WRONG_ARGUMENT;
+            }
+            words_views::set_levels(words, arg);
+            NOTHING
+        }
+        RESET => {
+            reset(words, pins);
+            NOTHING
+        }
+        _ => WRONG_KIND,
+    }
+}
+
+// One event of the 24-pin part, whatever the words hold.
+pub fn step24(words: &mut [u64; 28], kind: u32, arg: u64) -> u32
+    ensures { λ a. ⌜ Steps 0 (now (words .entry)) (now (words .exit)) kind arg (answerAt a) ⌝ }
+{
+    if !bounded(&*words, 0xff_ffff, 0x7, 0xffff, 0xff, 0) {
+        return WRONG_IMAGE;
+    }
+    let row = words_rows::row24((words[POINTER] % 128) as u8);
+    if row == 0 {
+        return WRONG_IMAGE;
+    }
+    if is_command(&*words, kind) {
+        let wanted = words_rows::row24((arg % 128) as u8);
+        return command(words, wanted, arg);
+    }
+    event(words, 0xff_ffff, row, kind, arg)
+}
+
+// And of its sister.
+fn step34(words: &mut [u64; 28], kind: u32, arg: u64) -> u32
+    ensures { λ a. ⌜ Steps 1 (now (words .entry)) (now (words .exit)) kind arg (answerAt a) ⌝ }
+{
+    if !bounded(&*words, 0x3_ffff_ffff, 0x1f, 0xff_ffff, 0, 1) {
+        return WRONG_IMAGE;
+    }
+    let row = words_rows::row34((words[POINTER] % 128) as u8);
+    if row == 0 {
+        return WRONG_IMAGE;
+    }
+    if is_command(&*words, kind) {
+        let wanted = words_rows::row34((arg % 128) as u8);
+        return command(words, wanted, arg);
+    }
+    event(words, 0x3_ffff_ffff, row, kind, arg)
+}

@@ -1,0 +1,14 @@
+use mathlib.Core.Path.{ap}
+use Rattle.device_rules.specs.Device.{Outcome}
+use Rattle.words_device.proofs.Powering.{powered}
+use Rattle.words_device.proofs.power_on.Statement.{statement}
+use Rattle.words_device.proofs.power_on.Tie as tie
+
+returns : tie.Need-returns
+returns c =
+    let s = c .before in
+    let p = powered (s .args .choice) (s .args .levels) (s .pre .0) (s .pre .1) in
+    (p .packed, ap (λ (o : Outcome). o .after) (p .outcome))
+
+pub power-on-spec : {M : Type 1} → statement M
+power-on-spec = tie.close (tie.spec returns)

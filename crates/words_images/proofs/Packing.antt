@@ -1,0 +1,211 @@
+-- Words made of an image are packed and hold its state; made of the image of packed words they are those words again. Assumes nothing.
+use mathlib.Core.Path.{_≡_, refl, sym, ap, ap₂, subst, _∙_}
+use mathlib.Core.Bool.{Bool, true, false, not, _&&_}
+use mathlib.Core.List.{List}
+use Prim.Native.Nat.{ℕ, _%_, _^_, _<_}
+use native.Mathlib.Nat.{mod-eq-of-lt}
+use native.Mathlib.Omega.{arith}
+use borrow.Author.Tests.{lt-ltb, ltb-true, not-true}
+use lib.Dec.{ltb}
+use lib.ListN.{getD, set}
+use lib.Seq.{getD-set-same, getD-set-other}
+use Rattle.bits.proofs.Decide.{clash, and-left, and-right}
+use Rattle.pins.specs.AllPins.{Within}
+use Rattle.pins.specs.declared.Sets.{Sets}
+use Rattle.map.specs.Map.{Part, reserved, fileFits}
+use Rattle.registers.specs.Registers.{Core, core}
+use Rattle.device_rules.specs.Device.{State, state, out}
+use Rattle.device_rules.specs.Held.{stateOf}
+use Rattle.device_rules.specs.declared.Answer.{Answer}
+use Rattle.device_rules.proofs.Stepping.{same-state}
+use Rattle.device_rules.specs.Refusals.{setsFit, imageFits, stepped}
+use Rattle.words.specs.Words.{partOf, fileOf, setsIn, withSets, Fit, Holds}
+use Rattle.words.proofs.Sound.{sound}
+use Rattle.words.proofs.Holding.{within, sets-there, holds-sets}
+use Rattle.words_bus.specs.Packed.{stateIn, Packed, Steps}
+use Rattle.words_bus.proofs.Left.{unused-case, core-past, fit-past}
+use Rattle.words_bus.proofs.Judging.{same-packed, image-fits, bounded-of}
+use Rattle.words_images.specs.Images.{Packs, restIn}
+
+-- what an image that fits is known to be
+pub record Fitting (p : Part) (s : State) : Type 0 where
+  pub pointer-known : reserved p (s .pointer) ≡ false
+  pub bus-small : s .bus < 8
+  pub choice-small : s .choice < 4
+  pub within : Within (p .width) (s .regs .sets)
+  pub file-fits : fileFits p (s .regs .file) ≡ true
+
+pub fitting-of : (p : Part) (s : State) → imageFits p s ≡ true → Fitting p s
+unfolding imageFits setsFit
+fitting-of p s e = go (not (reserved p (s .pointer))) (ltb (s .bus) 8) (ltb (s .choice) 4) (ltb (x .level) m) (ltb (x .reference) m) (ltb (x .held) m) (ltb (x .edge) m)
+    (fileFits p (s .regs .file)) refl refl refl refl refl refl refl refl e
+  where
+    x : Sets
+    x = s .regs .sets
+
+    m : ℕ
+    m = 2 ^ p .width
+
+    go : (k b c l r h d f : Bool) → not (reserved p (s .pointer)) ≡ k → ltb (s .bus) 8 ≡ b → ltb (s .choice) 4 ≡ c → ltb (x .level) m ≡ l → ltb (x .reference) m ≡ r
+        → ltb (x .held) m ≡ h → ltb (x .edge) m ≡ d → fileFits p (s .regs .file) ≡ f → (k && (b && (c && ((l && (r && (h && d))) && f)))) ≡ true → Fitting p s
+    go k b c l r h d f ek eb ec el er eh ed ef e =
+        let a1 = and-right k (b && (c && ((l && (r && (h && d))) && f))) e in
+        let a2 = and-right b (c && ((l && (r && (h && d))) && f)) a1 in
+        let a3 = and-right c ((l && (r && (h && d))) && f) a2 in
+        let s1 = and-left (l && (r && (h && d))) f a3 in
+        let s2 = and-right l (r && (h && d)) s1 in
+        let s3 = and-right r (h && d) s2 in
+        record {
+          pointer-known = not-true _ (ek ∙ and-left k (b && (c && ((l && (r && (h && d))) && f))) e);
+          bus-small = ltb-true (s .bus) 8 (eb ∙ and-left b (c && ((l && (r && (h && d))) && f)) a1);
+          choice-small = ltb-true (s .choice) 4 (ec ∙ and-left c ((l && (r && (h && d))) && f) a2);
+          within = record {
+            level-small = ltb-true (x .level) m (el ∙ and-left l (r && (h && d)) s1);
+            reference-small = ltb-true (x .reference) m (er ∙ and-left r (h && d) s2);
+            held-small = ltb-true (x .held) m (eh ∙ and-left h d s3);
+            edge-small = ltb-true (x .edge) m (ed ∙ and-right h d s3);
+          };
+          file-fits = ef ∙ and-right (l && (r && (h && d))) f a3;
+        }
+
+module _ (c : ℕ) (hc : c < 2) (u : List ℕ) (fit : Fit (partOf c) u) (zeros : (s : ℕ) → 18 < s → getD u s 0 ≡ 0) (x : Sets) (pointer bus choice : ℕ)
+    (d : Within (partOf c .width) x) where
+  held : Holds (partOf c) u (withSets u x) (core (fileOf (partOf c) u) x)
+  held = holds-sets (partOf c) (sound c) u u x fit d refl (λ s h. refl)
+
+  abbrev w0 : List ℕ
+  w0 = withSets u x
+
+  abbrev w1 : List ℕ
+  w1 = set w0 21 pointer
+
+  abbrev w2 : List ℕ
+  w2 = set w1 22 bus
+
+  abbrev w3 : List ℕ
+  w3 = set w2 23 choice
+
+  abbrev w4 : List ℕ
+  w4 = set w3 27 c
+
+  fit1 : Fit (partOf c) w1
+  fit1 = fit-past c w0 21 pointer (omega arith) (held .fit)
+
+  fit2 : Fit (partOf c) w2
+  fit2 = fit-past c w1 22 bus (omega arith) fit1
+
+  fit3 : Fit (partOf c) w3
+  fit3 = fit-past c w2 23 choice (omega arith) fit2
+
+  at-pointer : getD w4 21 0 ≡ pointer
+  at-pointer =
+      getD-set-other w3 27 21 c 0 (λ e. omega (arith, e)) ∙ getD-set-other w2 23 21 choice 0 (λ e. omega (arith, e)) ∙ getD-set-other w1 22 21 bus 0 (λ e. omega (arith, e))
+      ∙ getD-set-same w0 21 pointer 0 (omega (arith, held .fit .full))
+
+  at-bus : getD w4 22 0 ≡ bus
+  at-bus =
+      getD-set-other w3 27 22 c 0 (λ e. omega (arith, e)) ∙ getD-set-other w2 23 22 choice 0 (λ e. omega (arith, e))
+      ∙ getD-set-same w1 22 bus 0 (omega (arith, fit1 .full))
+
+  at-choice : getD w4 23 0 ≡ choice
+  at-choice =
+      getD-set-other w3 27 23 c 0 (λ e. omega (arith, e))
+      ∙ getD-set-same w2 23 choice 0 (omega (arith, fit2 .full))
+
+  unused-zero : (s : ℕ) → 18 < s → (s ≡ 21 → ⊥) → (s ≡ 22 → ⊥) → (s ≡ 23 → ⊥) → (s ≡ 27 → ⊥) → getD w4 s 0 ≡ 0
+  unused-zero s h a b e f =
+      getD-set-other w3 27 s c 0 f ∙ getD-set-other w2 23 s choice 0 e ∙ getD-set-other w1 22 s bus 0 b ∙ getD-set-other w0 21 s pointer 0 a ∙ held .rest s h ∙ zeros s h
+
+  pub packed-state : stateIn (partOf c) w4 ≡ state (core (fileOf (partOf c) u) x) pointer bus choice
+  packed-state =
+      same-state
+      (core-past c w3 27 c (omega arith) ∙ core-past c w2 23 choice (omega arith) ∙ core-past c w1 22 bus (omega arith) ∙ core-past c w0 21 pointer (omega arith) ∙ held .core)
+      at-pointer at-bus at-choice
+
+  pub packed-words : reserved (partOf c) pointer ≡ false → bus < 8 → choice < 4 → Packed c w4
+  packed-words known hb hch = record {
+    known-part = hc;
+    fit = fit-past c w3 27 c (omega arith) fit3;
+    none = unused-case (λ s. getD w4 s 0 ≡ 0) (unused-zero 19 (omega arith) (λ e. omega (arith, e)) (λ e. omega (arith, e)) (λ e. omega (arith, e)) (λ e. omega (arith, e))) (unused-zero 20 (omega arith) (λ e. omega (arith, e)) (λ e. omega (arith, e)) (λ e. omega (arith, e)) (λ e. omega (arith, e))) (unused-zero 24 (omega arith) (λ e. omega (arith, e)) (λ e. omega (arith, e)) (λ e. omega (arith, e)) (λ e. omega (arith, e))) (unused-zero 25 (omega arith) (λ e. omega (arith, e)) (λ e. omega (arith, e)) (λ e. omega (arith, e)) (λ e. omega (arith, e))) (unused-zero 26 (omega arith) (λ e. omega (arith, e)) (λ e. omega (arith, e)) (λ e. omega (arith, e)) (λ e. omega (arith, e)));
+    pointer-known = ap (reserved (partOf c)) at-pointer ∙ known;
+    bus-small = rw at-bus hb;
+    choice-small = rw at-choice hch;
+    part-is = getD-set-same w3 27 c 0 (omega (arith, fit3 .full));
+  }
+
+-- ---- words made of an image, judged
+module _ (c : ℕ) (u file : List ℕ) (fit : Fit (partOf c) u) (zeros : (s : ℕ) → 18 < s → getD u s 0 ≡ 0)
+    (taken : fileFits (partOf c) file ≡ true → fileOf (partOf c) u ≡ file) (x : Sets) (pointer bus choice : ℕ) where
+  abbrev image : State
+  image = state (core file x) pointer bus choice
+
+  abbrev made : List ℕ
+  made = set (set (set (set (withSets u x) 21 pointer) 22 bus) 23 choice) 27 c
+
+  would-fit : c < 2 → imageFits (partOf c) image ≡ true → Packed c made × (stateIn (partOf c) made ≡ image)
+  would-fit h e =
+      let f = fitting-of (partOf c) image e in (
+        packed-words c h u fit zeros x pointer bus choice (f .within) (f .pointer-known) (f .bus-small) (f .choice-small),
+        packed-state c h u fit zeros x pointer bus choice (f .within)
+            ∙ ap (λ (l : List ℕ). state (core l x) pointer bus choice) (taken (f .file-fits)),
+      )
+
+  not-judged : (c < 2 → imageFits (partOf c) image ≡ true → ⊥) → (w : List ℕ) → Packs c image false w w
+  not-judged z w = record { judged = go (ltb c 2) (imageFits (partOf c) image) refl refl; packed = λ h. clash false h refl; unchanged = λ h. refl }
+    where
+      go : (a b : Bool) → ltb c 2 ≡ a → imageFits (partOf c) image ≡ b → false ≡ (a && b)
+      go true true p q = absurd (z (ltb-true c 2 p) q)
+      go true false p q = refl
+      go false b p q = refl
+
+  pub no-such-file : (fileOf (partOf c) made ≡ file → ⊥) → (w : List ℕ) → Packs c image false w w
+  no-such-file z = not-judged (λ h e. z (ap (λ (s : State). s .regs .file) (would-fit h e .1)))
+
+  pub not-packed : (Packed c made → ⊥) → (w : List ℕ) → Packs c image false w w
+  not-packed z = not-judged (λ h e. z (would-fit h e .0))
+
+  pub judged-packed : Packed c made → fileOf (partOf c) made ≡ file → (w : List ℕ) → Packs c image true w made
+  judged-packed k e w = record {
+    judged = sym (ap₂ (λ (a b : Bool). a && b) (lt-ltb c 2 (k .known-part)) (ap (imageFits (partOf c)) (sym same) ∙ image-fits c made k));
+    packed = λ h. (k, same);
+    unchanged = λ h. clash true refl h;
+  }
+    where
+      sets : setsIn made ≡ x
+      sets =
+          ap (λ (r : Core). r .sets)
+          (core-past c _ 27 c (omega arith) ∙ core-past c _ 23 choice (omega arith) ∙ core-past c _ 22 bus (omega arith) ∙ core-past c (withSets u x) 21 pointer (omega arith))
+          ∙ sets-there u x (fit .full)
+
+      inside : Within (partOf c .width) x
+      inside = subst (Within (partOf c .width)) sets (within (partOf c) (sound c) made (k .fit))
+
+      held : stateIn (partOf c) made ≡ state (core (fileOf (partOf c) u) x) pointer bus choice
+      held = packed-state c (k .known-part) u fit zeros x pointer bus choice inside
+
+      same : stateIn (partOf c) made ≡ image
+      same = held ∙ ap (λ (l : List ℕ). state (core l x) pointer bus choice) (sym (ap (λ (s : State). s .regs .file) held) ∙ e)
+
+-- ---- and back
+small : (x m : ℕ) → x < m → m < 257 → x % 256 ≡ x
+small x m h l = mod-eq-of-lt (omega arith)
+
+-- what packed words are unpacked to is the image that they hold
+pub unpacked : (c : ℕ) (w : List ℕ) → Packed c w → stateOf (fileOf (partOf (getD w 27 0)) w) (restIn w) ≡ stateIn (partOf c) w
+unpacked c w k =
+    let b = bounded-of c w k in
+    same-state (ap (λ (p : ℕ). core (fileOf (partOf p) w) (setsIn w)) (k .part-is))
+    (small (getD w 21 0) 128 (b .pointer-small) (omega arith)) (small (getD w 22 0) 8 (b .bus-small) (omega arith)) (small (getD w 23 0) 4 (b .choice-small) (omega arith))
+
+-- the image of packed words, packed again, gives the same words
+pub packed-again : (c : ℕ) (w v w' : List ℕ) (fits : Bool) → Packed c w → Packs c (stateIn (partOf c) w) fits v w' → w' ≡ w
+packed-again c w v w' fits k p =
+    let r = p .packed (p .judged ∙ ap₂ (λ (a b : Bool). a && b) (lt-ltb c 2 (k .known-part)) (image-fits c w k)) in
+    same-packed c w' w (r .0) k (r .1)
+
+-- the step on an image's packing gives the answer of the step on the image, and leaves the words of the image that one leaves
+pub same-step : (c : ℕ) (image : State) (v w w' : List ℕ) (kind arg : ℕ) (answer : Answer) → Packs c image true v w → Steps c w w' kind arg answer
+    → (out answer (stateIn (partOf c) w') ≡ stepped (partOf c) image kind arg) × Packed c w'
+same-step c image v w w' kind arg answer p s =
+    let l = s .taken (p .packed refl .0) in
+    (l .outcome ∙ ap (λ (x : State). stepped (partOf c) x kind arg) (p .packed refl .1), l .packed)

@@ -1,0 +1,70 @@
+-- `word_images::from_file`: the entries below n are taken (`Taken`), and no other word is touched. Assumes nothing.
+use borrow.Author.Needs.{needs}
+use mathlib.Core.Path.{_≡_, refl, ap, _∙_}
+use Prim.Native.Nat.{ℕ, _-_, _<_}
+use lib.ListN.{getD}
+use Rattle.registers.specs.Registers.{Core}
+use Rattle.words.specs.Words.{partOf}
+use Rattle.words.proofs.Sound.{sound}
+use Rattle.words.proofs.Images.{Taken, all-zero, taken-none, taken-more, taken-all}
+use Rattle.words_images.proofs.from_file.Statement.{statement}
+use Rattle.words_images.proofs.from_file.Tie as tie
+
+abbrev Inv-loop : tie.InvT-loop
+Inv-loop words₀ part file -count n₀ words n = Taken (partOf part) file words n × ((s : ℕ) → 18 < s → getD words s 0 ≡ 0)
+
+abbrev μ-loop : tie.MeasureT-loop
+μ-loop words₀ part file -count n₀ words n = 128 - n
+
+loop-holds : tie.Need-loop-holds Inv-loop μ-loop
+loop-holds c =
+    let x = c .before .before .args in
+    (taken-none (partOf (x .part)) (sound (x .part)) (x .file .now) _ refl (all-zero 28), λ s h. all-zero 28 s)
+
+store-requires : tie.Need-store-requires Inv-loop μ-loop
+store-requires c κs =
+    let test = c .before .before .before in
+    let l = test .before in
+    record {
+      part = l .before .before .before .args .part;
+      number = l .loop .n;
+      small = test .loop-test .taken;
+      row-is = c .row-of .ensures;
+      fit = l .loop .inv .0 .fit;
+    }
+
+loop-again : tie.Need-loop-again Inv-loop μ-loop
+loop-again c =
+    let test = c .before .before .before .before in
+    let l = test .before in
+    let x = l .before .before .before .args in
+    let h = c .store .ensures (x .part) (l .loop .n) (test .loop-test .taken) (c .before .row-of .ensures) (l .loop .inv .0 .fit) in (
+      taken-more (partOf (x .part)) (sound (x .part)) (x .file .now) (l .loop .words) _ (l .loop .n) (l .loop .inv .0) (test .loop-test .taken) (ap (λ (k : Core). k .file) (h .core)) (h .fit),
+      λ s past. h .rest s past ∙ l .loop .inv .1 s past,
+    )
+
+returns : tie.Need-returns Inv-loop μ-loop
+returns c =
+    let l = c .before in
+    let x = l .before .before .before .args in (
+      l .loop .inv .0 .fit,
+      λ f. taken-all (partOf (x .part)) (sound (x .part)) (x .file .now) (l .loop .words) (l .loop .n) (l .loop .inv .0) (c .loop-test .left) (l .before .before .counted .ensures) f,
+      l .loop .inv .1,
+    )
+
+pub from-file-spec : {M : Type 1} → statement M
+from-file-spec =
+    tie.close
+    (tie.spec
+    Inv-loop
+    μ-loop
+    (λ c κs. search needs)
+    loop-holds
+    (λ c. search needs)
+    (λ c. search needs)
+    (λ c κs. search needs)
+    store-requires
+    (λ c. search needs)
+    (λ c. search needs)
+    loop-again
+    returns)

@@ -1,0 +1,95 @@
+-- `word_views::show`: pins by `shown-port`, else what is stored. Assumes nothing.
+use borrow.Author.Needs.{needs}
+use mathlib.Core.Path.{refl, sym, _∙_}
+use Prim.Native.Nat.{_<_}
+use native.Mathlib.Omega.{arith}
+use Rattle.pins.specs.OnePin.{inputOf, statusOf}
+use Rattle.map.specs.Map.Kind.{Input, Status, InputStatus}
+use Rattle.registers.specs.Registers.{onePin, shownAs}
+use Rattle.words.specs.Words.{partOf, coreIn}
+use Rattle.words.proofs.Sound.{sound}
+use Rattle.words.proofs.Showing.{input-read, status-read, entry-shown, shown-port}
+use Rattle.words_rows.proofs.Taken.{known-small, its-kind, paired-by, low-rule}
+use Rattle.words_views.proofs.show.Statement.{statement}
+use Rattle.words_views.proofs.show.Tie as tie
+
+returns : tie.Need-returns
+unfolding shownAs
+returns c =
+    λ part n known e fit.
+    let b = c .before .before .before in
+    let start = b .before .before in
+    let a = start .args in
+    let p = partOf part in
+    let w = a .words .now in
+    let hn : n < 128 = known-small (a .row) part n known e in
+    let er = b .rule .ensures part n hn e in
+    let one = paired-by part n _ hn er 1 (c .before .before .match .keys1) in
+    shown-port p (sound part) n hn w Input (its-kind part n _ hn er Input (c .before .before .match .keys1)) refl refl _
+    (b .before .port .ensures .0 part n hn e one) (λ i. inputOf (onePin p (coreIn p w) i)) refl _
+    (λ i l. c .before .inputs .ensures i (omega (arith, l, sound part .port-few)) ∙ sym (input-read p (sound part) w i l)) (c .byte-of .ensures)
+
+returns-2 : tie.Need-returns-2
+unfolding shownAs
+returns-2 c =
+    λ part n known e fit.
+    let b = c .before .before .before in
+    let start = b .before .before in
+    let a = start .args in
+    let p = partOf part in
+    let w = a .words .now in
+    let hn : n < 128 = known-small (a .row) part n known e in
+    let er = b .rule .ensures part n hn e in
+    let one = paired-by part n _ hn er 3 (c .before .before .match .keys2) in
+    shown-port p (sound part) n hn w InputStatus (its-kind part n _ hn er InputStatus (c .before .before .match .keys2)) refl refl _
+    (b .before .port .ensures .0 part n hn e one) (λ i. inputOf (onePin p (coreIn p w) i)) refl _
+    (λ i l. c .before .inputs2 .ensures i (omega (arith, l, sound part .port-few)) ∙ sym (input-read p (sound part) w i l)) (c .byte-of2 .ensures)
+
+returns-3 : tie.Need-returns-3
+unfolding shownAs
+returns-3 c =
+    λ part n known e fit.
+    let b = c .before .before .before in
+    let start = b .before .before in
+    let a = start .args in
+    let p = partOf part in
+    let w = a .words .now in
+    let hn : n < 128 = known-small (a .row) part n known e in
+    let er = b .rule .ensures part n hn e in
+    let one = paired-by part n _ hn er 2 (c .before .before .match .keys3) in
+    shown-port p (sound part) n hn w Status (its-kind part n _ hn er Status (c .before .before .match .keys3)) refl refl _
+    (b .before .port .ensures .0 part n hn e one) (λ i. statusOf (onePin p (coreIn p w) i)) refl _
+    (λ i l. c .before .statuses .ensures .pins i ∙ sym (status-read p (sound part) w i fit l)) (c .byte-of3 .ensures)
+
+returns-4 : tie.Need-returns-4
+returns-4 c =
+    λ part n known e fit.
+    let b = c .before .before in
+    let start = b .before .before in
+    let a = start .args in
+    let p = partOf part in
+    let w = a .words .now in
+    let hn : n < 128 = known-small (a .row) part n known e in
+    let er = b .rule .ensures part n hn e in
+    let rest = c .before .match .rest in
+    c .entry .ensures part n hn e
+    ∙ entry-shown p (sound part) n hn w (λ z. rest .0 .0 .1 (low-rule part n _ hn er 1 (omega arith) z)) (λ z. rest .1 (low-rule part n _ hn er 2 (omega arith) z))
+    (λ z. rest .0 .1 (low-rule part n _ hn er 3 (omega arith) z))
+
+pub show-spec : {M : Type 1} → statement M
+show-spec =
+    tie.close
+    (tie.spec
+    (λ c κs. search needs)
+    (λ c κs. search needs)
+    (λ c κs. search needs)
+    (λ c κs. search needs)
+    (λ c κs. search needs)
+    (λ c κs. search needs)
+    (λ c κs. search needs)
+    (λ c κs. search needs)
+    (λ c κs. search needs)
+    returns
+    returns-2
+    returns-3
+    returns-4)
