@@ -8,8 +8,13 @@ ghost use Rattle.words_images.specs.Images.{Packs};
 ghost use Rattle.device.specs.Held.{stateIn};
 ghost use Rattle.device.specs.Asked.{lowOf, highOf, lineOf, shownOf};
 use device_rules::Answer;
+use device_rules::BAD_ARGUMENT;
+use device_rules::BAD_IMAGE;
+use device_rules::LAST_CHOICE;
+use device_rules::NONE;
+use map::LAST_NUMBER;
+use map::PINS24;
 use pins::Sets;
-use words_device::PINS;
 
 // The state of the device: one byte for each command number beside the pin sets, the pointer, the bus state and the address choice.
 pub struct Device {
@@ -54,13 +59,13 @@ pub struct Shown {
 fn making_refusal(choice: u8, levels: u64) -> u8
     ensures { λ n. ⌜ n ≡ makingRefused part24 choice levels ⌝ }
 {
-    if 3 < choice {
-        return 2;
+    if LAST_CHOICE < choice {
+        return BAD_ARGUMENT;
     }
-    if PINS < levels {
-        return 2;
+    if PINS24 < levels {
+        return BAD_ARGUMENT;
     }
-    0
+    NONE
 }
 
 impl Device {
@@ -140,7 +145,7 @@ impl Device {
         let mut words = [0u64; 28];
         if !self.pack(&mut words) {
             return Stepped {
-                answer: Answer::Refused(3),
+                answer: Answer::Refused(BAD_IMAGE),
                 device: self,
             };
         }
@@ -165,12 +170,15 @@ impl Device {
         let mut words = [0u64; 28];
         if !self.pack(&mut words) {
             return Driven {
-                refusal: 3,
+                refusal: BAD_IMAGE,
                 pins: 0,
             };
         }
-        let pins = words_views::low(&words, PINS);
-        Driven { refusal: 0, pins }
+        let pins = words_views::low(&words, PINS24);
+        Driven {
+            refusal: NONE,
+            pins,
+        }
     }
 
     // The pins driven high.
@@ -180,12 +188,15 @@ impl Device {
         let mut words = [0u64; 28];
         if !self.pack(&mut words) {
             return Driven {
-                refusal: 3,
+                refusal: BAD_IMAGE,
                 pins: 0,
             };
         }
         let pins = words_views::high(&words);
-        Driven { refusal: 0, pins }
+        Driven {
+            refusal: NONE,
+            pins,
+        }
     }
 
     // Whether INT is asserted. Refused it counts as asserted: nobody is to take a refusal for quiet.
@@ -195,13 +206,13 @@ impl Device {
         let mut words = [0u64; 28];
         if !self.pack(&mut words) {
             return Line {
-                refusal: 3,
+                refusal: BAD_IMAGE,
                 asserted: true,
             };
         }
         let asserted = words_views::int(&words);
         Line {
-            refusal: 0,
+            refusal: NONE,
             asserted,
         }
     }
@@ -213,24 +224,27 @@ impl Device {
         let mut words = [0u64; 28];
         if !self.pack(&mut words) {
             return Shown {
-                refusal: 3,
+                refusal: BAD_IMAGE,
                 byte: 0,
             };
         }
-        if 127 < n {
+        if LAST_NUMBER < n {
             return Shown {
-                refusal: 2,
+                refusal: BAD_ARGUMENT,
                 byte: 0,
             };
         }
         let row = words_rows::row24(n);
         if row == 0 {
             return Shown {
-                refusal: 2,
+                refusal: BAD_ARGUMENT,
                 byte: 0,
             };
         }
         let byte = words_views::show(&words, row);
-        Shown { refusal: 0, byte }
+        Shown {
+            refusal: NONE,
+            byte,
+        }
     }
 }

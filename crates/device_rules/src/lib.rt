@@ -17,3 +17,18 @@ pub struct Rest {
     pub bus: u8,
     pub choice: u8,
 }
+
+// Refusals, by their numbers; 0 is none.
+pub const NONE: u8 = 0;
+
+pub const BAD_KIND: u8 = 1;
+
+pub const BAD_ARGUMENT: u8 = 2;
+
+pub const BAD_IMAGE: u8 = 3;
+
+// Of a line that says nothing.
+pub const UNREADABLE: u8 = 7;
+
+// The last address choice.
+pub const LAST_CHOICE: u8 = 3;

@@ -6,6 +6,7 @@ ghost use lib.ListN.{length};
 ghost use Rattle.planner_promise.specs.Answer.{answerOf, Answers};
 ghost use Rattle.planner_promise.specs.Promise.{Promise};
 ghost use Rattle.host_words.specs.Host.{Told, Made, Seen, Shown, drivesOf, intOf, imageIn, FromImage, ToImage, plannedAs, countIn};
+use map::PINS24;
 use pins::Sets;
 use words::BUS;
 use words::CHOICE;
@@ -15,19 +16,29 @@ use words::LEVEL;
 use words::POINTER;
 use words::REFERENCE;
 
+// Refusals as the header has them.
+const DONE: u32 = 0;
+
+const BAD_ARGUMENT: u32 = 2;
+
+const BAD_IMAGE: u32 = 3;
+
+// The last address choice.
+const LAST_CHOICE: u32 = 3;
+
 // A device at power-on.
 #[no_mangle]
 pub extern "C" fn ghixramel_power_on(words: &mut [u64; 28], choice: u32, levels: u64) -> u32
     ensures { λ r. ⌜ Made choice levels r (now (words .entry)) (now (words .exit)) ⌝ }
 {
-    if 3 < choice {
-        return 2;
+    if LAST_CHOICE < choice {
+        return BAD_ARGUMENT;
     }
-    if words_device::PINS < levels {
-        return 2;
+    if PINS24 < levels {
+        return BAD_ARGUMENT;
     }
     words_device::power_on(words, (choice % 4) as u8, levels);
-    0
+    DONE
 }
 
 // One event.
@@ -36,12 +47,12 @@ pub extern "C" fn ghixramel_step(
     words: &mut [u64; 28],
     kind: u32,
     argument: u64,
-    told: &mut [u8; 2],
+    answer: &mut [u8; 2],
 ) -> u32
-    ensures { λ r. ⌜ Told (now (words .entry)) kind argument r (now (words .exit)) (now (told .entry)) (now (told .exit)) ⌝ }
+    ensures { λ r. ⌜ Told (now (words .entry)) kind argument r (now (words .exit)) (now (answer .entry)) (now (answer .exit)) ⌝ }
 {
-    let answer = words_bus::answer(words_bus::step24(words, kind, argument));
-    host_words::tell(answer, told)
+    let given = words_bus::answer(words_bus::step24(words, kind, argument));
+    host_words::tell(given, answer)
 }
 
 // The pins driven low and high.
@@ -50,12 +61,12 @@ pub extern "C" fn ghixramel_drives(words: &[u64; 28], drives: &mut [u64; 2]) -> 
     ensures { λ r. ⌜ Seen (now (words .entry)) drivesOf r (now (drives .entry)) (now (drives .exit)) ⌝ }
 {
     if words_device::fits(words, 0) {
-        let low = words_views::low(words, words_device::PINS);
+        let low = words_views::low(words, PINS24);
         let high = words_views::high(words);
         *drives = [low, high];
-        return 0;
+        return DONE;
     }
-    3
+    BAD_IMAGE
 }
 
 // Whether INT is asserted.
@@ -65,28 +76,28 @@ pub extern "C" fn ghixramel_int(words: &[u64; 28], asserted: &mut [u8; 1]) -> u3
 {
     if words_device::fits(words, 0) {
         *asserted = [host_words::one_if(words_views::int(words))];
-        return 0;
+        return DONE;
     }
-    3
+    BAD_IMAGE
 }
 
 // The byte that a fetch of register n would show.
 #[no_mangle]
-pub extern "C" fn ghixramel_show(words: &[u64; 28], number: u32, byte: &mut [u8; 1]) -> u32
-    ensures { λ r. ⌜ Shown (now (words .entry)) number r (now (byte .entry)) (now (byte .exit)) ⌝ }
+pub extern "C" fn ghixramel_show(words: &[u64; 28], number: u32, shown: &mut [u8; 1]) -> u32
+    ensures { λ r. ⌜ Shown (now (words .entry)) number r (now (shown .entry)) (now (shown .exit)) ⌝ }
 {
     if !words_device::fits(words, 0) {
-        return 3;
+        return BAD_IMAGE;
     }
     if 127 < number {
-        return 2;
+        return BAD_ARGUMENT;
     }
     let row = words_rows::row24((number % 128) as u8);
     if row == 0 {
-        return 2;
+        return BAD_ARGUMENT;
     }
-    *byte = [words_views::show(words, row)];
-    0
+    *shown = [words_views::show(words, row)];
+    DONE
 }
 
 // The words of an image.
@@ -94,10 +105,10 @@ pub extern "C" fn ghixramel_show(words: &[u64; 28], number: u32, byte: &mut [u8;
 pub extern "C" fn ghixramel_pack(
     words: &mut [u64; 28],
     pins: &[u64; 4],
-    file: &[u8; 128],
+    registers: &[u8; 128],
     bus: &[u64; 3],
 ) -> u32
-    ensures { λ r. ⌜ FromImage (imageIn (now (pins .entry)) (now (file .entry)) (now (bus .entry))) r (now (words .entry)) (now (words .exit)) ⌝ }
+    ensures { λ r. ⌜ FromImage (imageIn (now (pins .entry)) (now (registers .entry)) (now (bus .entry))) r (now (words .entry)) (now (words .exit)) ⌝ }
 {
     let sets = Sets {
         level: pins[0],
@@ -105,10 +116,10 @@ pub extern "C" fn ghixramel_pack(
         held: pins[2],
         edge: pins[3],
     };
-    if words_images::pack(words, 0, file, sets, bus[0], bus[1], bus[2]) {
-        return 0;
+    if words_images::pack(words, 0, registers, sets, bus[0], bus[1], bus[2]) {
+        return DONE;
     }
-    3
+    BAD_IMAGE
 }
 
 // The image of words.
@@ -116,19 +127,19 @@ pub extern "C" fn ghixramel_pack(
 pub extern "C" fn ghixramel_unpack(
     words: &[u64; 28],
     pins: &mut [u64; 4],
-    file: &mut [u8; 128],
+    registers: &mut [u8; 128],
     bus: &mut [u64; 3],
 ) -> u32
-    ensures { λ r. ⌜ ToImage (now (words .entry)) r (now (pins .entry)) (now (file .entry)) (now (bus .entry))
-        (now (pins .exit)) (now (file .exit)) (now (bus .exit)) ⌝ }
+    ensures { λ r. ⌜ ToImage (now (words .entry)) r (now (pins .entry)) (now (registers .entry)) (now (bus .entry))
+        (now (pins .exit)) (now (registers .exit)) (now (bus .exit)) ⌝ }
 {
     if !words_device::fits(words, 0) {
-        return 3;
+        return BAD_IMAGE;
     }
-    words_images::to_file(words, 0, file);
+    words_images::to_file(words, 0, registers);
     *pins = [words[LEVEL], words[REFERENCE], words[HELD], words[EDGE]];
     *bus = [words[POINTER], words[BUS], words[CHOICE]];
-    0
+    DONE
 }
 
 // The plan from the start to the goal, at the start of the buffer.

@@ -1,6 +1,3 @@
-// Whether settings are well-formed: the planner's first question.
-// Where the plan stands halfway, port by port: the two bytes that a port has between start and goal, and the pins that are stuck.
-// Lays the plan at the start of a buffer: of its sixteen writes those that change their register.
 // The planner: from a start to a goal for the ten registers that set direction, output level and output kind.
 ghost use mathlib.Core.Path.{_≡_};
 ghost use Rattle.planner_promise.specs.Formed.{formed};
@@ -16,16 +13,21 @@ ghost use mathlib.Core.Bool.{cond, _&&_};
 ghost use Rattle.planner_promise.specs.Promise.{refusalOf, countOf, Promise};
 use device::Device;
 use planner_bytes::PortBytes;
+use planner_promise::BAD_SETTING;
+use planner_promise::BUFFER_SMALL;
+use planner_promise::KINDS_AT;
+use planner_promise::NO_QUIET_WAY;
 use planner_promise::Planned;
+use planner_promise::SETTING_BYTES;
 
 // Whether s is ten bytes with no bit past port 2 in the output port kind.
 pub fn is_formed(s: &[u8]) -> bool
     ensures { λ r. ⌜ r ≡ formed (now (s .entry)) ⌝ }
 {
-    if s.len() != 10 {
+    if s.len() != SETTING_BYTES {
         return false;
     }
-    s[6] < 8
+    s[KINDS_AT] < 8
 }
 
 // What the settings s say of port k.
@@ -34,7 +36,7 @@ fn port(s: &[u8], k: u8) -> PortBytes
     ensures { λ r. ⌜ Loaded (now (s .entry)) k r ⌝ }
 {
     let at = k as usize;
-    let kinds = ports::spread(s[6]);
+    let kinds = ports::spread(s[KINDS_AT]);
     let kind = ports::byte_of(kinds, k);
     PortBytes {
         output: s[at],
@@ -93,7 +95,7 @@ fn was_of(s: &[u8], a: Middle, b: Middle, c: Middle) -> [u8; 16]
         s[4],
         s[2],
         s[5],
-        s[6],
+        s[KINDS_AT],
         s[7],
         a.output,
         a.configuration,
@@ -118,7 +120,7 @@ fn to_of(g: &[u8], a: Middle, b: Middle, c: Middle) -> [u8; 16]
         b.configuration,
         c.output,
         c.configuration,
-        g[6],
+        g[KINDS_AT],
         g[7],
         g[0],
         g[3],
@@ -131,23 +133,24 @@ fn to_of(g: &[u8], a: Middle, b: Middle, c: Middle) -> [u8; 16]
     ]
 }
 
+// The registers of the sixteen writes: to the middle port by port, the port kind, to the goal port by port.
 const REGISTERS: [u8; 16] = [
-    0x04,
-    0x0c,
-    0x05,
-    0x0d,
-    0x06,
-    0x0e,
-    0x5c,
-    0x70,
-    0x04,
-    0x0c,
-    0x71,
-    0x05,
-    0x0d,
-    0x72,
-    0x06,
-    0x0e,
+    map::OUTPUT24_0,
+    map::CONFIGURATION24_0,
+    map::OUTPUT24_1,
+    map::CONFIGURATION24_1,
+    map::OUTPUT24_2,
+    map::CONFIGURATION24_2,
+    map::PORT_KIND24,
+    map::PIN_KIND24_0,
+    map::OUTPUT24_0,
+    map::CONFIGURATION24_0,
+    map::PIN_KIND24_1,
+    map::OUTPUT24_1,
+    map::CONFIGURATION24_1,
+    map::PIN_KIND24_2,
+    map::OUTPUT24_2,
+    map::CONFIGURATION24_2,
 ];
 
 // Lays the plan at the start of the buffer; the number of its writes.
@@ -170,16 +173,16 @@ pub fn plan(start: &[u8], goal: &[u8], buf: &mut [u8]) -> Planned
     ensures promise { λ r. ⌜ Promise (now (start .entry)) (now (goal .entry)) (now (buf .entry)) (now (buf .exit)) (refusalOf r) (countOf r) ⌝ }
 {
     if !is_formed(start) {
-        return Planned::Refused(5);
+        return Planned::Refused(BAD_SETTING);
     }
     if !is_formed(goal) {
-        return Planned::Refused(5);
+        return Planned::Refused(BAD_SETTING);
     }
     if buf.len() < Device::plan_room() {
-        return Planned::Refused(6);
+        return Planned::Refused(BUFFER_SMALL);
     }
     if is_blocked(start, goal) {
-        return Planned::Refused(4);
+        return Planned::Refused(NO_QUIET_WAY);
     }
     Planned::Writes(lay(start, goal, buf))
 }

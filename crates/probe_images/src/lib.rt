@@ -19,8 +19,9 @@ ghost use Rattle.probe_images.specs.Begun.{Holds};
 use device::Device;
 use device::Stepped;
 use device_rules::Answer;
+use device_rules::UNREADABLE;
+use map::PINS24;
 use pins::Sets;
-use words_device::PINS;
 
 // The device whose image the line says.
 pub fn device_in(line: &[u8]) -> Device
@@ -78,7 +79,7 @@ fn put_answer(out: &mut [u8], at: usize, d: Device, answer: Answer) -> usize
     let mut words = [0u64; 28];
     let _fits = words_images::pack(&mut words, 0, &file, d.sets, pointer, bus, choice);
     let int = words_views::int(&words);
-    let low = words_views::low(&words, PINS);
+    let low = words_views::low(&words, PINS24);
     let high = words_views::high(&words);
     let mut line = [0u8; 26];
     let end = text_answers::put_line(&mut line, 0, answer, int, low, high) - 1;
@@ -104,7 +105,7 @@ pub fn answer_line(line: &[u8], out: &mut [u8], at: usize) -> usize
     ensures { λ r. ⌜ Wrote (now (out .entry)) at (probeText (now (line .entry))) r (now (out .exit)) × (r ≤ at + 360) ⌝ }
 {
     if !probe_fields::is_readable(line) {
-        return text_answers::put_line(out, at, Answer::Refused(7), false, 0, 0);
+        return text_answers::put_line(out, at, Answer::Refused(UNREADABLE), false, 0, 0);
     }
     let s = step_in(line);
     let answer = s.answer;

@@ -11,21 +11,20 @@ ghost use Rattle.trace_lines.specs.Lines.{lineOf};
 ghost use Rattle.text_answers.specs.Answers.{shownLine, refusedLine};
 ghost use Rattle.trace_session.specs.Tracing.{sessionOf, traced, told, Kept, Says};
 use device_rules::Answer;
+use device_rules::UNREADABLE;
+use map::PINS24;
 use trace_lines::Line;
 use words::PART;
 
 // The part of words that hold no device yet.
 pub const NO_PART: u64 = 2;
 
-// Every pin of the part.
-const PINS: u64 = 0xff_ffff;
-
 // Refusal 7.
 fn refuse(out: &mut [u8], at: usize) -> usize
     requires { ⌜ at + 26 ≤ length (now out) ⌝ }
     ensures { λ end. ⌜ Wrote (now (out .entry)) at (refusedLine 7) end (now (out .exit)) ⌝ }
 {
-    text_answers::put_line(out, at, Answer::Refused(7), false, 0, 0)
+    text_answers::put_line(out, at, Answer::Refused(UNREADABLE), false, 0, 0)
 }
 
 // The answer of a device that is as it is after it.
@@ -34,7 +33,7 @@ fn tell(words: &[u64; 28], answer: Answer, out: &mut [u8], at: usize) -> usize
     ensures { λ end. ⌜ Wrote (now (out .entry)) at (shownLine (outcome answer (stateIn part24 (now (words .entry))))) end (now (out .exit)) ⌝ }
 {
     let int = words_views::int(words);
-    let low = words_views::low(words, PINS);
+    let low = words_views::low(words, PINS24);
     let high = words_views::high(words);
     text_answers::put_line(out, at, answer, int, low, high)
 }
