@@ -3,7 +3,7 @@
 # images, logs, plans and views (SEED, IMAGES, LOGS, PLANS and VIEWS on request: IMAGES=100000 SEED=7 tests/host.sh).
 set -u
 cd "$(dirname "${BASH_SOURCE[0]}")/.." || exit 2
-. tests/c/kit.sh
+. c/kit.sh
 out=target/host
 bad=0
 fail() {
@@ -21,10 +21,10 @@ build() {
     local host="host $watched images words master refused points refusals broken carried shows plans"
     mkdir -p "$out" || return 1
     for name in $host as_peer plan_lines view_lines; do
-        compile_c "$out/$name.o" "tests/c/$name.c" -I bench || return 1
+        compile_c "$out/$name.o" "tests/c/$name.c" || return 1
     done
     for name in mix peer peer_probe peer_trace; do
-        compile_c "$out/$name.o" "bench/$name.c" || return 1
+        compile_c "$out/$name.o" "c/$name.c" || return 1
     done
     # shellcheck disable=SC2046,SC2086
     link_c "$out/host" $(objects $host mix peer) "$library" &&

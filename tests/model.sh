@@ -4,5 +4,5 @@ set -u
 cd "$(dirname "${BASH_SOURCE[0]}")/.." || exit 2
 bad=0
 python3 tests/model/selftest.py || bad=1
-python3 tests/model/mutants.py "${SEED:-1}" || bad=1
+python3 tests/model/try_mutants.py "${SEED:-1}" || bad=1
 exit $bad

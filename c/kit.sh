@@ -18,12 +18,12 @@ need_library() {
     fi
 }
 
-# the kit has no C headers: those of tests/c/include stand in
+# the kit has no C headers: those of c/include stand in
 compile_c() { # OBJECT SOURCE OPTIONS..
     local object=$1 source=$2
     shift 2
     "$tools/bin/clang" --target=x86_64-unknown-linux-gnu -std=c11 -O3 -fPIE -nostdinc -Wall -Wextra -Werror \
-        -I tests/c/include -I include "$@" -c "$source" -o "$object"
+        -I c/include -I include -I c "$@" -c "$source" -o "$object"
 }
 
 link_c() { # PROGRAM OBJECTS AND ARCHIVES..
