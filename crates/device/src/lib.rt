@@ -83,25 +83,10 @@ impl Device {
     pub fn reset_values() -> [u8; 128]
         ensures { λ r. ⌜ r ≡ defaults part24 ⌝ }
     {
+        let mut words = [0u64; 28];
+        words_device::power_on(&mut words, 0, 0);
         let mut file = [0u8; 128];
-        file[0x04] = 0xff;
-        file[0x05] = 0xff;
-        file[0x06] = 0xff;
-        file[0x0c] = 0xff;
-        file[0x0d] = 0xff;
-        file[0x0e] = 0xff;
-        file[0x40] = 0xff;
-        file[0x41] = 0xff;
-        file[0x42] = 0xff;
-        file[0x43] = 0xff;
-        file[0x44] = 0xff;
-        file[0x45] = 0xff;
-        file[0x50] = 0xff;
-        file[0x51] = 0xff;
-        file[0x52] = 0xff;
-        file[0x54] = 0xff;
-        file[0x55] = 0xff;
-        file[0x56] = 0xff;
+        words_images::to_file(&words, 0, &mut file);
         file
     }
 

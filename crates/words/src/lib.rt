@@ -34,6 +34,12 @@ pub const STRENGTH_LOW: usize = 13;
 
 pub const STRENGTH_HIGH: usize = 14;
 
+pub const PULL_SELECT: usize = 16;
+
+pub const DEBOUNCE_ENABLE: usize = 17;
+
+pub const DEBOUNCE_COUNT: usize = 18;
+
 pub const POINTER: usize = 21;
 
 pub const BUS: usize = 22;

@@ -12,12 +12,29 @@ ghost use Rattle.device_rules.specs.declared.Answer.the-variants.{Byte};
 ghost use Rattle.device_rules.specs.Refusals.{stepped};
 ghost use Rattle.words.specs.Words.{partOf};
 ghost use Rattle.words_rows.specs.Rows.{rowAt};
-ghost use Rattle.words_bus.specs.Packed.{stateIn, answerAt, unionTo, Packed, Standing, Leaves, Steps, Bounded, Limits};
+ghost use Rattle.words_bus.specs.Packed.{stateIn, answerAt, unionTo, resetWords, Packed, Standing, Leaves, Steps, Bounded, Limits};
 use device_rules::Answer;
+use map::DEBOUNCE_COUNT24;
+use map::DEBOUNCE_COUNT34;
+use map::DEBOUNCED24;
+use map::DEBOUNCED34;
+use map::PINS24;
+use map::PINS34;
+use map::PORT_KINDS24;
+use map::PORT_KINDS34;
 use words::BUS;
 use words::CHOICE;
+use words::CONFIGURATION;
+use words::DEBOUNCE_COUNT;
+use words::DEBOUNCE_ENABLE;
+use words::MASK;
+use words::OUTPUT;
 use words::PART;
 use words::POINTER;
+use words::PORT_KIND;
+use words::PULL_SELECT;
+use words::STRENGTH_HIGH;
+use words::STRENGTH_LOW;
 
 // Bus states.
 const IDLE: u64 = 0;
@@ -185,6 +202,21 @@ fn fetch(words: &mut [u64; 28], row: u32, acknowledged: bool) -> u32
     read(shown)
 }
 
+// The words after a reset but for the pins, of a part whose pins are these: the one place in code where the defaults stand.
+pub fn put_defaults(words: &mut [u64; 28], pins: u64, choice: u64, part: u64)
+    ensures { λ r. ⌜ now (words .exit) ≡ resetWords pins choice part ⌝ }
+{
+    *words = [0; 28];
+    words[CONFIGURATION] = pins;
+    words[MASK] = pins;
+    words[OUTPUT] = pins;
+    words[STRENGTH_LOW] = pins;
+    words[STRENGTH_HIGH] = pins;
+    words[PULL_SELECT] = pins;
+    words[CHOICE] = choice;
+    words[PART] = part;
+}
+
 // Any reset, of a part whose pins are these.
 fn reset(words: &mut [u64; 28], pins: u64)
     requires { ⌜ Packed (getD (now words) 27 0) (now words) × (pins ≡ 2 ^ partOf (getD (now words) 27 0) .width - 1) ⌝ }
@@ -195,36 +227,8 @@ fn reset(words: &mut [u64; 28], pins: u64)
     let y = pins_marks::reset_pins(x);
     let choice = words[CHOICE];
     let part = words[PART];
-    *words = [
-        y.level,
-        y.reference,
-        y.held,
-        y.edge,
-        pins,
-        0,
-        pins,
-        0,
-        0,
-        0,
-        pins,
-        0,
-        0,
-        pins,
-        pins,
-        0,
-        pins,
-        0,
-        0,
-        0,
-        0,
-        0,
-        0,
-        choice,
-        0,
-        0,
-        0,
-        part,
-    ];
+    put_defaults(words, pins, choice, part);
+    words::put_sets(words, y);
 }
 
 // STOP.
@@ -255,9 +259,9 @@ fn spare(words: &[u64; 28], pins: u64, kinds: u64, enables: u64, counts: u64) ->
         (without (getD (now (words .entry)) 17 0) enables)) (without (getD (now (words .entry)) 18 0) counts) ⌝ }
 {
     let any = union(words);
-    let kind = words[7];
-    let enable = words[17];
-    let count = words[18];
+    let kind = words[PORT_KIND];
+    let enable = words[DEBOUNCE_ENABLE];
+    let count = words[DEBOUNCE_COUNT];
     (any ^ (any & pins))
         | (kind ^ (kind & kinds))
         | (enable ^ (enable & enables))
@@ -356,7 +360,14 @@ pub fn event(words: &mut [u64; 28], pins: u64, row: u32, kind: u32, arg: u64) ->
 pub fn step24(words: &mut [u64; 28], kind: u32, arg: u64) -> u32
     ensures { λ a. ⌜ Steps 0 (now (words .entry)) (now (words .exit)) kind arg (answerAt a) ⌝ }
 {
-    if !bounded(&*words, 0xff_ffff, 0x7, 0xffff, 0xff, 0) {
+    if !bounded(
+        &*words,
+        PINS24,
+        PORT_KINDS24,
+        DEBOUNCED24,
+        DEBOUNCE_COUNT24,
+        0,
+    ) {
         return WRONG_IMAGE;
     }
     let row = words_rows::row24((words[POINTER] % 128) as u8);
@@ -367,14 +378,21 @@ pub fn step24(words: &mut [u64; 28], kind: u32, arg: u64) -> u32
         let wanted = words_rows::row24((arg % 128) as u8);
         return command(words, wanted, arg);
     }
-    event(words, 0xff_ffff, row, kind, arg)
+    event(words, PINS24, row, kind, arg)
 }
 
 // And of its sister.
 fn step34(words: &mut [u64; 28], kind: u32, arg: u64) -> u32
     ensures { λ a. ⌜ Steps 1 (now (words .entry)) (now (words .exit)) kind arg (answerAt a) ⌝ }
 {
-    if !bounded(&*words, 0x3_ffff_ffff, 0x1f, 0xff_ffff, 0, 1) {
+    if !bounded(
+        &*words,
+        PINS34,
+        PORT_KINDS34,
+        DEBOUNCED34,
+        DEBOUNCE_COUNT34,
+        1,
+    ) {
         return WRONG_IMAGE;
     }
     let row = words_rows::row34((words[POINTER] % 128) as u8);
@@ -385,5 +403,5 @@ fn step34(words: &mut [u64; 28], kind: u32, arg: u64) -> u32
         let wanted = words_rows::row34((arg % 128) as u8);
         return command(words, wanted, arg);
     }
-    event(words, 0x3_ffff_ffff, row, kind, arg)
+    event(words, PINS34, row, kind, arg)
 }

@@ -10,53 +10,30 @@ ghost use Rattle.words.specs.Words.{partOf};
 ghost use Rattle.words_rows.specs.Rows.{rowAt};
 ghost use Rattle.words_bus.specs.Packed.{stateIn, Packed, Leaves, Limits};
 use device_rules::Answer;
+use map::DEBOUNCE_COUNT24;
+use map::DEBOUNCE_COUNT34;
+use map::DEBOUNCED24;
+use map::DEBOUNCED34;
+use map::PINS24;
+use map::PINS34;
+use map::PORT_KINDS24;
+use map::PORT_KINDS34;
+use pins::Sets;
 use words::POINTER;
-
-// Every pin of the part, and the bits of its output port kind and its debounce registers.
-pub const PINS: u64 = 0xff_ffff;
-
-const KINDS: u64 = 0x7;
-
-const ENABLES: u64 = 0xffff;
-
-const COUNTS: u64 = 0xff;
 
 // A device at power-on.
 pub fn power_on(words: &mut [u64; 28], choice: u8, levels: u64)
     requires { ⌜ (choice < 4) × (levels < 2 ^ 24) ⌝ }
     ensures { λ r. ⌜ Packed 0 (now (words .exit)) × (stateIn part24 (now (words .exit)) ≡ powerOn part24 choice levels) ⌝ }
 {
-    let own = choice as u64;
-    *words = [
-        levels,
-        levels,
-        0,
-        0,
-        PINS,
-        0,
-        PINS,
-        0,
-        0,
-        0,
-        PINS,
-        0,
-        0,
-        PINS,
-        PINS,
-        0,
-        PINS,
-        0,
-        0,
-        0,
-        0,
-        0,
-        0,
-        own,
-        0,
-        0,
-        0,
-        0,
-    ];
+    words_bus::put_defaults(words, PINS24, choice as u64, 0);
+    let quiet = Sets {
+        level: levels,
+        reference: levels,
+        held: 0,
+        edge: 0,
+    };
+    words::put_sets(words, quiet);
 }
 
 // Whether the words are the packing of a well-formed image of a part with these limits, the row of the register at the pointer given.
@@ -87,7 +64,15 @@ pub fn fits(words: &[u64; 28], part: u64) -> bool
 {
     let n = (words[POINTER] % 128) as u8;
     match part {
-        0 => packed(words, PINS, KINDS, ENABLES, COUNTS, 0, words_rows::row24(n)),
+        0 => packed(
+            words,
+            PINS24,
+            PORT_KINDS24,
+            DEBOUNCED24,
+            DEBOUNCE_COUNT24,
+            0,
+            words_rows::row24(n),
+        ),
         1 => packed(
             words,
             0x3_ffff_ffff,
@@ -111,5 +96,5 @@ pub fn event(words: &mut [u64; 28], kind: u32, arg: u64) -> Answer
         return words_bus::answer(words_bus::command(words, wanted, arg));
     }
     let row = words_rows::row24((words[POINTER] % 128) as u8);
-    words_bus::answer(words_bus::event(words, PINS, row, kind, arg))
+    words_bus::answer(words_bus::event(words, PINS24, row, kind, arg))
 }

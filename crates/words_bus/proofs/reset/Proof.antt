@@ -13,14 +13,16 @@ use Rattle.words_bus.proofs.reset.Tie as tie
 
 returns : tie.Need-returns
 returns c =
-    let pins = c .before .before .before in
+    let filled = c .before .before in
+    let pins = filled .before .before .before .before in
     let sets = pins .before in
     let a = sets .before .before .args in
     λ k packed e.
-    reset-left k (a .words .now) packed (a .pins) e _
+    rw (c .put-sets .ensures) (rw (filled .put-defaults .ensures)
+    (reset-left k (a .words .now) packed (a .pins) e _
     (pins .reset-pins .ensures (partOf k .width) (rw (sets .sets-in .ensures) (within (partOf k) (sound k) (a .words .now) (packed .fit)))
-    ∙ ap (λ (x : Sets). mapPins (partOf k .width) x (λ i. reset)) (sets .sets-in .ensures))
+    ∙ ap (λ (x : Sets). mapPins (partOf k .width) x (λ i. reset)) (sets .sets-in .ensures))))
 
 pub reset-spec : {M : Type 1} → statement M
 reset-spec =
-    tie.close (tie.spec (λ c κs. search needs) (λ c κs. search needs) (λ c. search needs) (λ c. search needs) returns)
+    tie.close (tie.spec (λ c κs. search needs) (λ c κs. search needs) (λ c. search needs) (λ c. search needs) (λ c κs. search needs) (λ c κs. search needs) returns)

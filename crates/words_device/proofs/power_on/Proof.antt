@@ -1,3 +1,5 @@
+-- `words_device::power_on`: the words of a reset with the pins at these levels (`powered`). Assumes nothing.
+use borrow.Author.Needs.{needs}
 use mathlib.Core.Path.{ap}
 use Rattle.device_rules.specs.Device.{Outcome}
 use Rattle.words_device.proofs.Powering.{powered}
@@ -6,9 +8,10 @@ use Rattle.words_device.proofs.power_on.Tie as tie
 
 returns : tie.Need-returns
 returns c =
-    let s = c .before in
+    let filled = c .before .before in
+    let s = filled .before .before in
     let p = powered (s .args .choice) (s .args .levels) (s .pre .0) (s .pre .1) in
-    (p .packed, ap (λ (o : Outcome). o .after) (p .outcome))
+    rw (c .put-sets .ensures) (rw (filled .put-defaults .ensures) (p .packed, ap (λ (o : Outcome). o .after) (p .outcome)))
 
 pub power-on-spec : {M : Type 1} → statement M
-power-on-spec = tie.close (tie.spec returns)
+power-on-spec = tie.close (tie.spec (λ c κs. search needs) (λ c κs. search needs) returns)
