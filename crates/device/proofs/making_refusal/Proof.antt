@@ -1,3 +1,4 @@
+-- `device::making_refusal`: each test is one of the refusal's. Assumes nothing.
 use native.Mathlib.Omega.{arith}
 use Rattle.device_rules.proofs.Making.{choice-over, levels-over, none-over}
 use Rattle.device.proofs.making_refusal.Statement.{statement}

@@ -1,3 +1,4 @@
+-- `ghixramel_drives`: 3 where the words are packed of none; else the drives of the words (`seen`). Assumes nothing.
 use borrow.Author.Needs.{needs}
 use mathlib.Core.Path.{refl}
 use Rattle.bits.proofs.Decide.{clash}

@@ -1,3 +1,4 @@
+-- `ghixramel_int`: 3 where the words are packed of none; else INT of the words (`seen`). Assumes nothing.
 use borrow.Author.Needs.{needs}
 use Rattle.bits.proofs.Decide.{clash}
 use Rattle.host_words.proofs.Laws.{seen, unseen, int-told}

@@ -1,3 +1,4 @@
+-- `ghixramel_pack`: what packing judged (`from-image`, `from-none`). Assumes nothing.
 use borrow.Author.Needs.{needs}
 use Rattle.host_words.proofs.Laws.{from-image, from-none}
 use Rattle.ghixramel.proofs.ghixramel_pack.Statement.{statement}

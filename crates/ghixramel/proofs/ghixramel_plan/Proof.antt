@@ -1,3 +1,4 @@
+-- `ghixramel_plan`: the planner's answer, told in two numbers (`plan-told`). Assumes nothing.
 use borrow.Author.Needs.{needs}
 use Rattle.host_words.proofs.Laws.{plan-told}
 use Rattle.ghixramel.proofs.ghixramel_plan.Statement.{statement}

@@ -1,3 +1,4 @@
+-- `ghixramel_power_on`: each test is one of the making's refusal; else power-on. Assumes nothing.
 use borrow.Author.Needs.{needs}
 use mathlib.Core.Path.{_≡_}
 use Prim.Native.Nat.{_%_}

@@ -1,3 +1,4 @@
+-- `ghixramel_show`: 3 before 2; else the byte of the register's row (`shown-here`). Assumes nothing.
 use borrow.Author.Needs.{needs}
 use mathlib.Core.Path.{_≡_, sym, ap, _∙_}
 use mathlib.Core.List.{[], _∷_}

@@ -1,3 +1,4 @@
+-- `ghixramel_step`: the step on words, told in numbers (`told-of`). Assumes nothing.
 use borrow.Author.Needs.{needs}
 use mathlib.Core.Path.{sym, subst}
 use Rattle.words_bus.specs.Packed.{Steps}

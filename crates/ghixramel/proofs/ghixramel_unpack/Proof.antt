@@ -1,3 +1,4 @@
+-- `ghixramel_unpack`: 3 where the words are packed of none; else the file and the words of the rest (`to-image`). Assumes nothing.
 use borrow.Author.Needs.{needs}
 use borrow.Author.Tests.{not-true, not-false}
 use Rattle.bits.proofs.Decide.{clash}

@@ -1,3 +1,4 @@
+-- `host_words::one_if`: by its two values. Assumes nothing.
 use mathlib.Core.Path.{refl}
 use Rattle.host_words.proofs.one_if.Statement.{statement}
 use Rattle.host_words.proofs.one_if.Tie as tie

@@ -1,3 +1,4 @@
+-- `host_words::tell`: by the five answers. Assumes nothing.
 use borrow.Author.Needs.{needs}
 use mathlib.Core.Path.{refl}
 use Rattle.host_words.proofs.tell.Statement.{statement}

@@ -1,3 +1,4 @@
+-- `host_words::tell_plan`: by the planner's two answers. Assumes nothing.
 use borrow.Author.Needs.{needs}
 use mathlib.Core.Path.{refl}
 use Rattle.host_words.proofs.tell_plan.Statement.{statement}

@@ -1,3 +1,4 @@
+-- `pins_marks::fetch_input`: the pins of the port are settled, the others stay. Assumes nothing.
 use borrow.Author.Needs.{needs}
 use Rattle.pins.specs.Pin.{inputFetched}
 use Rattle.pins_marks.proofs.fetch_input.Statement.{statement}

@@ -1,3 +1,4 @@
+-- `pins_marks::levels_to`: at each pin the code's expression is the rule of a new level (`level-map`). Assumes nothing.
 use Rattle.pins.proofs.Rules.{level-map}
 use Rattle.pins_marks.proofs.levels_to.Statement.{statement}
 use Rattle.pins_marks.proofs.levels_to.Tie as tie

@@ -1,3 +1,4 @@
+-- `pins_marks::reset_pins`: at each pin the code's expression is the rule of a reset. Assumes nothing.
 use Rattle.pins.proofs.Rules.{reset-map}
 use Rattle.pins_marks.proofs.reset_pins.Statement.{statement}
 use Rattle.pins_marks.proofs.reset_pins.Tie as tie

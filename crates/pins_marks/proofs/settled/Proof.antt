@@ -1,3 +1,4 @@
+-- `pins_marks::settled`: at each pin the code's expression is settling (`settle-map`). Assumes nothing.
 use Rattle.pins.proofs.Rules.{settle-map}
 use Rattle.pins_marks.proofs.settled.Statement.{statement}
 use Rattle.pins_marks.proofs.settled.Tie as tie

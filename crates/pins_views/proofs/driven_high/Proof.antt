@@ -1,3 +1,4 @@
+-- `pins_views::driven_high`: at each pin the code's expression is `drivesHigh` (`high-set`). Assumes nothing.
 use Rattle.pins.proofs.Rules.{high-set}
 use Rattle.pins_views.proofs.driven_high.Statement.{statement}
 use Rattle.pins_views.proofs.driven_high.Tie as tie

@@ -1,3 +1,4 @@
+-- `pins_views::input_bits`: at each pin the code's expression is the input port bit (`input-set`). Assumes nothing.
 use Rattle.pins.proofs.Rules.{input-set}
 use Rattle.pins_views.proofs.input_bits.Statement.{statement}
 use Rattle.pins_views.proofs.input_bits.Tie as tie

@@ -1,3 +1,4 @@
+-- `pins_views::int_asserted`: a number is not 0 exactly if some bit of it is 1 (`some-bit`). Assumes nothing.
 use Rattle.bits.proofs.Laws.{some-bit}
 use Rattle.pins.specs.AllPins.{asserted}
 use Rattle.pins_views.proofs.int_asserted.Statement.{statement}

@@ -1,3 +1,4 @@
+-- `pins_views::status_bits`: at each pin the code's expression is the status bit. Assumes nothing.
 use Rattle.pins.proofs.Rules.{status-set}
 use Rattle.pins_views.proofs.status_bits.Statement.{statement}
 use Rattle.pins_views.proofs.status_bits.Tie as tie

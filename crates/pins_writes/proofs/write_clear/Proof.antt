@@ -1,3 +1,4 @@
+-- `pins_writes::write_clear`: at each pin the code's expression is the rule of a clear write. Assumes nothing.
 use borrow.Author.Needs.{needs}
 use mathlib.Core.Path.{ap, _∙_}
 use mathlib.Core.Bool.{Bool}

@@ -1,3 +1,4 @@
+-- `pins_writes::write_configuration`: at each pin the code's expression is the rule of a configuration write. Assumes nothing.
 use Rattle.pins.proofs.Rules.{configuration-map}
 use Rattle.pins_writes.proofs.write_configuration.Statement.{statement}
 use Rattle.pins_writes.proofs.write_configuration.Tie as tie

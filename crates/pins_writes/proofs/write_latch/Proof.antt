@@ -1,3 +1,4 @@
+-- `pins_writes::write_latch`: at each pin the code's expression is the rule of a latch write. Assumes nothing.
 use Rattle.pins.proofs.Rules.{latch-map}
 use Rattle.pins_writes.proofs.write_latch.Statement.{statement}
 use Rattle.pins_writes.proofs.write_latch.Tie as tie

@@ -1,3 +1,4 @@
+-- `pins_writes::write_mask`: at each pin the code's expression is the rule of a mask write. Assumes nothing.
 use Rattle.pins.proofs.Rules.{mask-map}
 use Rattle.pins_writes.proofs.write_mask.Statement.{statement}
 use Rattle.pins_writes.proofs.write_mask.Tie as tie

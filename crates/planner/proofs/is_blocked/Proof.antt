@@ -1,3 +1,4 @@
+-- `planner::is_blocked`: some port has a stuck pin exactly if some pin is stuck (`three-ports`). Assumes nothing.
 use borrow.Author.Needs.{needs}
 use Rattle.planner.proofs.Halves.{some-of, three-ports}
 use Rattle.planner.proofs.is_blocked.Statement.{statement}

@@ -1,3 +1,4 @@
+-- `planner::mid_port`: the middle bytes, pin by pin those of the definition. Assumes nothing.
 use borrow.Author.Needs.{needs}
 use mathlib.Core.Path.{_∙_}
 use Rattle.planner.proofs.Halves.{configuration-port, output-port}

@@ -1,3 +1,4 @@
+-- `planner::port`: three bytes are read; the kind byte is the port's of the spread 5C (`kind-bit`). Assumes nothing.
 use borrow.Author.Needs.{needs}
 use mathlib.Core.Path.{refl}
 use Rattle.planner.proofs.Halves.{kind-bit}

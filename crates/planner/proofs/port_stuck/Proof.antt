@@ -1,3 +1,4 @@
+-- `planner::port_stuck`: the byte of stuck pins is the definition's (`stuck-port`). Assumes nothing.
 use borrow.Author.Needs.{needs}
 use mathlib.Core.Path.{_∙_}
 use Rattle.planner.proofs.Halves.{stuck-port}

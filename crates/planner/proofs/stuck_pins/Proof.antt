@@ -1,3 +1,4 @@
+-- `planner::stuck_pins`: where both settings are well-formed, the three ports' stuck pins side by side. Assumes nothing.
 use borrow.Author.Needs.{needs}
 use mathlib.Core.Path.{_≡_, ap₂, _∙_}
 use mathlib.Core.Bool.{Bool, false, not, _&&_}

@@ -1,3 +1,4 @@
+-- `planner_bytes::mid_configuration`: bit by bit the definition. Assumes nothing.
 use borrow.Author.Needs.{needs}
 use Rattle.planner_bytes.proofs.Bytes.{configuration-set}
 use Rattle.planner_bytes.proofs.mid_configuration.Statement.{statement}

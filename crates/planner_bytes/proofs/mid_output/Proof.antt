@@ -1,3 +1,4 @@
+-- `planner_bytes::mid_output`: bit by bit the definition (`output-set`). Assumes nothing.
 use borrow.Author.Needs.{needs}
 use Rattle.planner_bytes.proofs.Bytes.{output-set}
 use Rattle.planner_bytes.proofs.mid_output.Statement.{statement}

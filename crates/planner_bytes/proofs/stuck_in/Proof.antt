@@ -1,3 +1,4 @@
+-- `planner_bytes::stuck_in`: bit by bit the definition (`stuck-set`). Assumes nothing.
 use borrow.Author.Needs.{needs}
 use Rattle.planner_bytes.proofs.Bytes.{stuck-set}
 use Rattle.planner_bytes.proofs.stuck_in.Statement.{statement}

@@ -1,3 +1,4 @@
+-- `ports::byte_of`: a shift and a mask give the digit (`digit-of`). Assumes nothing.
 use borrow.Author.Needs.{needs}
 use Prim.Native.Nat.{_*_, _/_, _^_}
 use lib.Bits.{mask-lt}

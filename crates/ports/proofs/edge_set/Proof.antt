@@ -1,3 +1,4 @@
+-- `ports::edge_set`: four ones, placed. Assumes nothing.
 use borrow.Author.Needs.{needs}
 use mathlib.Core.Path.{_∙_}
 use Rattle.ports.specs.Ports.{inEdge}

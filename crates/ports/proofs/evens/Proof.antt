@@ -1,3 +1,4 @@
+-- `ports::evens`: tried at all 256 bytes (`evens-set`). Assumes nothing.
 use mathlib.Core.Path.{_≡_}
 use Prim.Native.Nat.{_*_, _<_}
 use Rattle.bits.specs.Bits.{bit}

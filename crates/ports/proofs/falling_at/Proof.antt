@@ -1,3 +1,4 @@
+-- `ports::falling_at`: the high bits of the fields, placed (`falling-bit`). Assumes nothing.
 use borrow.Author.Needs.{needs}
 use mathlib.Core.Path.{ap, _∙_}
 use mathlib.Core.Bool.{Bool, _&&_}

@@ -1,3 +1,4 @@
+-- `ports::join3`: bit by bit (`joined3`). Assumes nothing.
 use borrow.Author.Needs.{needs}
 use Rattle.ports.proofs.Bytes.{joined3}
 use Rattle.ports.proofs.join3.Statement.{statement}

@@ -1,3 +1,4 @@
+-- `ports::rising_at`: the low bits of the fields, placed (`rising-bit`). Assumes nothing.
 use borrow.Author.Needs.{needs}
 use mathlib.Core.Path.{ap, _∙_}
 use mathlib.Core.Bool.{Bool, _&&_}

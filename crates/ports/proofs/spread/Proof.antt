@@ -1,3 +1,4 @@
+-- `ports::spread`: bit by bit (`spread-bit`). Assumes nothing.
 use borrow.Author.Needs.{needs}
 use Rattle.ports.proofs.Bytes.{spread-bit}
 use Rattle.ports.proofs.spread.Statement.{statement}

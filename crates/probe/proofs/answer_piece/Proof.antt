@@ -1,3 +1,4 @@
+-- `probe::answer_piece`: each turn takes a line and its newline off the piece. Assumes nothing.
 use borrow.Author.Needs.{needs}
 use mathlib.Core.Path.{_≡_}
 use Prim.Native.Nat.{_≤_}

@@ -1,3 +1,4 @@
+-- `probe::main`: the line that has begun stays within its memory; it ends after as many turns as a number has. Assumes nothing.
 use borrow.Author.Needs.{needs}
 use mathlib.Core.Path.{_≡_}
 use Prim.Native.Nat.{ℕ, _≤_}

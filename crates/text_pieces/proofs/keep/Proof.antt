@@ -1,3 +1,4 @@
+-- `text_pieces::keep`: byte by byte while there is room. Assumes nothing.
 use borrow.Author.Needs.{needs}
 use Rattle.text_pieces.proofs.Laws.{part-kept}
 use Rattle.text_pieces.proofs.keep.Statement.{statement}

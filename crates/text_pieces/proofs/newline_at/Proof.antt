@@ -1,3 +1,4 @@
+-- `text_pieces::newline_at`: four bytes a turn, none of those before is a newline. Assumes nothing.
 use borrow.Author.Needs.{needs}
 use mathlib.Core.Path.{_≡_, sym, _∙_}
 use native.Mathlib.Omega.{arith}

@@ -1,3 +1,4 @@
+-- `text_pieces::newline_from`: one byte a turn, none of those before is a newline. Assumes nothing.
 use native.Mathlib.Omega.{arith}
 use borrow.Author.Needs.{needs}
 use mathlib.Core.Path.{_≡_, refl}

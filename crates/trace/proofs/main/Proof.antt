@@ -1,3 +1,4 @@
+-- `trace::main`: the session stays well-formed from piece to piece, the answers have room; it ends after as many turns as a number has. Assumes nothing.
 use borrow.Author.Needs.{needs}
 use mathlib.Core.Path.{_≡_}
 use Prim.Native.Nat.{ℕ, _≤_}

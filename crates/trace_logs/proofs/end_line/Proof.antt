@@ -1,3 +1,4 @@
+-- `trace_logs::end_line`: the line lies whole in the piece, or is joined. Assumes nothing.
 use borrow.Author.Needs.{needs}
 use borrow.Author.Tests.{eq-eqb, ne-eqb}
 use mathlib.Core.Path.{refl}

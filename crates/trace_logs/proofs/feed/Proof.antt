@@ -1,3 +1,4 @@
+-- `trace_logs::feed`: each turn answers a line and goes on with the rest (`Onward`). Assumes nothing.
 use borrow.Author.Needs.{needs}
 use native.Mathlib.Omega.{arith}
 use lib.ListN.{length}

@@ -1,3 +1,4 @@
+-- `trace_logs::grow`: what is kept of the line (`kept-most`). Assumes nothing.
 use borrow.Author.Needs.{needs}
 use mathlib.Core.Path.{_≡_, ap, _∙_}
 use mathlib.Core.List.{List}

@@ -1,3 +1,4 @@
+-- `trace_logs::joined_line`: the held bytes with the part are the line. Assumes nothing.
 use borrow.Author.Needs.{needs}
 use Rattle.trace_session.proofs.Laws.{says-as}
 use Rattle.trace_logs.proofs.Feeding.{line-joined}

@@ -1,4 +1,4 @@
--- `word_bus::answer`: by the number's kind. Assumes nothing.
+-- `words_bus::answer`: by the number's kind. Assumes nothing.
 use borrow.Author.Needs.{needs}
 use mathlib.Core.Path.{refl}
 use Rattle.words_bus.proofs.Left.{answer-by, answer-rest}

@@ -1,4 +1,4 @@
--- `word_bus::bounded`: nothing that may not be set is (`tested`, `passes`). Assumes nothing.
+-- `words_bus::bounded`: nothing that may not be set is (`tested`, `passes`). Assumes nothing.
 use borrow.Author.Needs.{needs}
 use mathlib.Core.Path.{refl, sym, ap₂, _∙_}
 use mathlib.Core.Bool.{false}

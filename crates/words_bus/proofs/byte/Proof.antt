@@ -1,4 +1,4 @@
--- `word_bus::byte`: each arm is the rule of its bus state. Assumes nothing.
+-- `words_bus::byte`: each arm is the rule of its bus state. Assumes nothing.
 use borrow.Author.Needs.{needs}
 use mathlib.Core.Path.{refl, ap}
 use native.Mathlib.Omega.{arith}

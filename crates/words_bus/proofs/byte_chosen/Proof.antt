@@ -1,4 +1,4 @@
--- `word_bus::byte_chosen`: each branch is one of the rule's; the row given says whether the number is reserved. Assumes nothing.
+-- `words_bus::byte_chosen`: each branch is one of the rule's; the row given says whether the number is reserved. Assumes nothing.
 use borrow.Author.Needs.{needs}
 use mathlib.Core.Path.{_≡_, sym, ap, _∙_}
 use mathlib.Core.Bool.{true, false}

@@ -1,4 +1,4 @@
--- `word_bus::byte_filling`: the register is written by `write_register`, and the pointer steps. Assumes nothing.
+-- `words_bus::byte_filling`: the register is written by `write_register`, and the pointer steps. Assumes nothing.
 use borrow.Author.Needs.{needs}
 use mathlib.Core.Path.{refl, ap}
 use lib.ListN.{getD}

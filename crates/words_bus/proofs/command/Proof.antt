@@ -1,4 +1,4 @@
--- `word_bus::command`: a byte in Chosen, or refused for its argument. Assumes nothing.
+-- `words_bus::command`: a byte in Chosen, or refused for its argument. Assumes nothing.
 use borrow.Author.Needs.{needs}
 use mathlib.Core.Path.{refl}
 use native.Mathlib.Omega.{arith}

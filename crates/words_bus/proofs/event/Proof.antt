@@ -1,4 +1,4 @@
--- `word_bus::event`: each arm is its event's law, judged by its kind and argument. Assumes nothing.
+-- `words_bus::event`: each arm is its event's law, judged by its kind and argument. Assumes nothing.
 use borrow.Author.Needs.{needs}
 use mathlib.Core.Path.{refl, ap}
 use Prim.Native.Nat.{_^_, _<_}

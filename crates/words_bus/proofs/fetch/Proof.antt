@@ -1,4 +1,4 @@
--- `word_bus::fetch`: in Sending what the register shows and does, elsewhere nothing. Assumes nothing.
+-- `words_bus::fetch`: in Sending what the register shows and does, elsewhere nothing. Assumes nothing.
 use borrow.Author.Needs.{needs}
 use mathlib.Core.Path.{refl, ap}
 use native.Mathlib.Omega.{arith}

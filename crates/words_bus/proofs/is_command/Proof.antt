@@ -1,4 +1,4 @@
--- `word_bus::is_command`: a byte, in Chosen. Assumes nothing.
+-- `words_bus::is_command`: a byte, in Chosen. Assumes nothing.
 use borrow.Author.Needs.{needs}
 use mathlib.Core.Path.{refl}
 use mathlib.Core.Bool.{false}

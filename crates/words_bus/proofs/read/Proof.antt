@@ -1,4 +1,4 @@
--- `word_bus::read`: kind 3, and the byte above it. Assumes nothing.
+-- `words_bus::read`: kind 3, and the byte above it. Assumes nothing.
 use borrow.Author.Needs.{needs}
 use Rattle.words_bus.proofs.Left.{byte-answer}
 use Rattle.words_bus.proofs.read.Statement.{statement}

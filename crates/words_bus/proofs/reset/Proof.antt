@@ -1,4 +1,4 @@
--- `word_bus::reset`: the defaults' words, and the pins by `pinmarks` (`reset-left`). Assumes nothing.
+-- `words_bus::reset`: the defaults' words, and the pins by `pins_marks` (`reset-left`). Assumes nothing.
 use borrow.Author.Needs.{needs}
 use mathlib.Core.Path.{ap, _∙_}
 use Rattle.pins.specs.Pin.{reset}

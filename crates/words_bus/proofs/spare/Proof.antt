@@ -1,4 +1,4 @@
--- `word_bus::spare`: the code's own form. Assumes nothing.
+-- `words_bus::spare`: the code's own form. Assumes nothing.
 use borrow.Author.Needs.{needs}
 use mathlib.Core.Path.{ap}
 use Prim.Native.Nat.{ℕ}

@@ -1,4 +1,4 @@
--- `word_bus::stop`: from Armed a reset, else Idle. Assumes nothing.
+-- `words_bus::stop`: from Armed a reset, else Idle. Assumes nothing.
 use borrow.Author.Needs.{needs}
 use mathlib.Core.Path.{ap}
 use native.Mathlib.Omega.{arith}

@@ -1,3 +1,4 @@
+-- `words_device::event`: a command or another event of the bus, on words that are known to be packed. Assumes nothing.
 use borrow.Author.Needs.{needs}
 use mathlib.Core.Path.{refl, sym, ap}
 use Prim.Native.Nat.{ℕ}

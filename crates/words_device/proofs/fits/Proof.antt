@@ -1,3 +1,4 @@
+-- `words_device::fits`: each part with its own limits; there is no third (`no-part`). Assumes nothing.
 use borrow.Author.Needs.{needs}
 use mathlib.Core.Path.{refl}
 use native.Mathlib.Omega.{arith}

@@ -1,3 +1,4 @@
+-- `words_device::packed`: bounded words whose pointer has a row, and only those. Assumes nothing.
 use borrow.Author.Needs.{needs}
 use mathlib.Core.Path.{refl}
 use borrow.Author.Tests.{not-true, not-false}

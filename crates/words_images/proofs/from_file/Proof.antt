@@ -1,4 +1,4 @@
--- `word_images::from_file`: the entries below n are taken (`Taken`), and no other word is touched. Assumes nothing.
+-- `words_images::from_file`: the entries below n are taken (`Taken`), and no other word is touched. Assumes nothing.
 use borrow.Author.Needs.{needs}
 use mathlib.Core.Path.{_≡_, refl, ap, _∙_}
 use Prim.Native.Nat.{ℕ, _-_, _<_}

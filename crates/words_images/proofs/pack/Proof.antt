@@ -1,4 +1,4 @@
--- `word_images::pack`: words are made of the file, the pins and the rest, and judged before they are kept. Assumes nothing.
+-- `words_images::pack`: words are made of the file, the pins and the rest, and judged before they are kept. Assumes nothing.
 use borrow.Author.Needs.{needs}
 use borrow.Author.Tests.{not-true, not-false}
 use Rattle.bits.proofs.Decide.{clash}

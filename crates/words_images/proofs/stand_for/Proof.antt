@@ -1,4 +1,4 @@
--- `word_images::stand_for`: the entries below n are those of the words (`Laid`). Assumes nothing.
+-- `words_images::stand_for`: the entries below n are those of the words (`Laid`). Assumes nothing.
 use borrow.Author.Needs.{needs}
 use mathlib.Core.Path.{refl, sym, _∙_}
 use Prim.Native.Nat.{_-_}

@@ -1,4 +1,4 @@
--- `word_images::to_file`: the entries below n are written (`Laid`). Assumes nothing.
+-- `words_images::to_file`: the entries below n are written (`Laid`). Assumes nothing.
 use borrow.Author.Needs.{needs}
 use Prim.Native.Nat.{_-_}
 use native.Mathlib.Omega.{arith}

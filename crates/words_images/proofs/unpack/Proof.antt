@@ -1,4 +1,4 @@
--- `word_images::unpack`: the file by `to_file`, the rest as it is. Assumes nothing.
+-- `words_images::unpack`: the file by `to_file`, the rest as it is. Assumes nothing.
 use borrow.Author.Needs.{needs}
 use mathlib.Core.Path.{ap}
 use mathlib.Core.List.{List}

@@ -1,4 +1,4 @@
--- `rows::existing`: what a row was put together from, taken out again. Assumes nothing.
+-- `words_rows::existing`: what a row was put together from, taken out again. Assumes nothing.
 use borrow.Author.Needs.{needs}
 use Rattle.words_rows.proofs.Taken.{existing-of}
 use Rattle.words_rows.proofs.existing.Statement.{statement}

@@ -1,4 +1,4 @@
--- `rows::row24`: each arm is the row that the map gives, which antt computes. Assumes nothing.
+-- `words_rows::row24`: each arm is the row that the map gives, which antt computes. Assumes nothing.
 use mathlib.Core.Path.{_≡_, sym, ap}
 use Prim.Native.Nat.{ℕ}
 use Rattle.map.specs.Map.{part24, kindAt, reserved, next}

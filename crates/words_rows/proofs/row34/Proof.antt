@@ -1,4 +1,4 @@
--- `rows::row34`: each arm is the row that the map gives, which antt computes. Assumes nothing.
+-- `words_rows::row34`: each arm is the row that the map gives, which antt computes. Assumes nothing.
 use mathlib.Core.Path.{_≡_, sym, ap}
 use Prim.Native.Nat.{ℕ}
 use Rattle.map.specs.Map.{part34, kindAt, reserved, next}

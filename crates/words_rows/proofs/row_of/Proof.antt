@@ -1,4 +1,4 @@
--- `rows::row_of`: the first part's row, or the sister's. Assumes nothing.
+-- `words_rows::row_of`: the first part's row, or the sister's. Assumes nothing.
 use borrow.Author.Needs.{needs}
 use mathlib.Core.Path.{sym, ap, _∙_}
 use Prim.Native.Nat.{ℕ}

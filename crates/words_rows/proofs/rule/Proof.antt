@@ -1,4 +1,4 @@
--- `rows::rule`: what a row was put together from, taken out again. Assumes nothing.
+-- `words_rows::rule`: what a row was put together from, taken out again. Assumes nothing.
 use Rattle.words_rows.proofs.Taken.{rule-of}
 use Rattle.words_rows.proofs.rule.Statement.{statement}
 use Rattle.words_rows.proofs.rule.Tie as tie

@@ -1,4 +1,4 @@
--- `rows::successor`: what a row was put together from, taken out again. Assumes nothing.
+-- `words_rows::successor`: what a row was put together from, taken out again. Assumes nothing.
 use native.Mathlib.Omega.{arith}
 use Prim.Native.Nat.{_/_, _^_}
 use lib.Bits.{mask-lt}

@@ -1,4 +1,4 @@
--- `rows::word`: what a row was put together from, taken out again. Assumes nothing.
+-- `words_rows::word`: what a row was put together from, taken out again. Assumes nothing.
 use native.Mathlib.Omega.{arith}
 use mathlib.Core.Path.{refl}
 use Prim.Native.Nat.{_/_, _^_}

@@ -1,4 +1,4 @@
--- `word_views::entry`: by the rule, one byte of a word, two halves of two words, or nothing. Assumes nothing.
+-- `words_views::entry`: by the rule, one byte of a word, two halves of two words, or nothing. Assumes nothing.
 use borrow.Author.Needs.{needs}
 use mathlib.Core.Path.{refl, sym, ap, _∙_}
 use mathlib.Core.Bool.{Bool, not, _&&_}

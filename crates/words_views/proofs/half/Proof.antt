@@ -1,4 +1,4 @@
--- `word_views::half`: a mask of four bits. Assumes nothing.
+-- `words_views::half`: a mask of four bits. Assumes nothing.
 use borrow.Author.Needs.{needs}
 use mathlib.Core.Path.{refl}
 use Prim.Native.Nat.{_*_, _/_, _^_}

@@ -1,4 +1,4 @@
--- `word_views::high`: pin by pin (`high-read`). Assumes nothing.
+-- `words_views::high`: pin by pin (`high-read`). Assumes nothing.
 use borrow.Author.Needs.{needs}
 use Rattle.words.specs.Words.{partOf}
 use Rattle.words.proofs.Sound.{sound}

@@ -1,4 +1,4 @@
--- `word_views::inputs`: the bits are `pinviews`'s, of the words' pins. Assumes nothing.
+-- `words_views::inputs`: the bits are `pins_views`'s, of the words' pins. Assumes nothing.
 use borrow.Author.Needs.{needs}
 use mathlib.Core.Path.{ap₂, _∙_}
 use mathlib.Core.Bool.{Bool}

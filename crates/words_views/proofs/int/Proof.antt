@@ -1,4 +1,4 @@
--- `word_views::int`: some status bit (`int-read`). Assumes nothing.
+-- `words_views::int`: some status bit (`int-read`). Assumes nothing.
 use borrow.Author.Needs.{needs}
 use Rattle.words.specs.Words.{partOf}
 use Rattle.words.proofs.Sound.{sound}

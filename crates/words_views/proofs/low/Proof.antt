@@ -1,4 +1,4 @@
--- `word_views::low`: pin by pin (`low-read`). Assumes nothing.
+-- `words_views::low`: pin by pin (`low-read`). Assumes nothing.
 use borrow.Author.Needs.{needs}
 use Rattle.words.specs.Words.{partOf}
 use Rattle.words.proofs.Sound.{sound}

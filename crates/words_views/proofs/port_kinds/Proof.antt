@@ -1,4 +1,4 @@
--- `word_views::port_kinds`: a bit a port, five ports at most. Assumes nothing.
+-- `words_views::port_kinds`: a bit a port, five ports at most. Assumes nothing.
 use borrow.Author.Needs.{needs}
 use mathlib.Core.Path.{_∙_}
 use Prim.Native.Nat.{_/_}

@@ -1,4 +1,4 @@
--- `word_views::set_levels`: the pins' rule is `pinmarks`'s (`levels-moved`). Assumes nothing.
+-- `words_views::set_levels`: the pins' rule is `pins_marks`'s (`levels-moved`). Assumes nothing.
 use borrow.Author.Needs.{needs}
 use mathlib.Core.Path.{ap, _∙_}
 use Rattle.bits.specs.Bits.{bit}

@@ -1,4 +1,4 @@
--- `word_views::settle`: an input port register settles its pins (`input-fetched`), another none. Assumes nothing.
+-- `words_views::settle`: an input port register settles its pins (`input-fetched`), another none. Assumes nothing.
 use borrow.Author.Needs.{needs}
 use mathlib.Core.Path.{ap, _∙_}
 use Prim.Native.Nat.{ℕ, _<_}

@@ -1,4 +1,4 @@
--- `word_views::show`: pins by `shown-port`, else what is stored. Assumes nothing.
+-- `words_views::show`: pins by `shown-port`, else what is stored. Assumes nothing.
 use borrow.Author.Needs.{needs}
 use mathlib.Core.Path.{refl, sym, _∙_}
 use Prim.Native.Nat.{_<_}

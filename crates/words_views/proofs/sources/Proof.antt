@@ -1,3 +1,4 @@
+-- `words_views::sources`: each field is its word. Assumes nothing.
 use borrow.Author.Needs.{needs}
 use mathlib.Core.Path.{refl}
 use Rattle.words_views.proofs.sources.Statement.{statement}

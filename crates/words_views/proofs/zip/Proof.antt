@@ -1,4 +1,4 @@
--- `word_views::zip`: tried at all half bytes (`zip-right`). Assumes nothing.
+-- `words_views::zip`: tried at all half bytes (`zip-right`). Assumes nothing.
 use Rattle.words.proofs.Showing.{zip-right}
 use Rattle.words_views.proofs.zip.Statement.{statement}
 use Rattle.words_views.proofs.zip.Tie as tie

@@ -1,4 +1,4 @@
--- `word_writes::field_pins`: the four pins of the edge register that the row names. Assumes nothing.
+-- `words_writes::field_pins`: the four pins of the edge register that the row names. Assumes nothing.
 use borrow.Author.Needs.{needs}
 use mathlib.Core.Path.{ap, _∙_}
 use Prim.Native.Nat.{ℕ}

@@ -1,4 +1,4 @@
--- `word_writes::port_bits`: the byte at its port, cut to the bits that exist in its word (`port-exists`). Assumes nothing.
+-- `words_writes::port_bits`: the byte at its port, cut to the bits that exist in its word (`port-exists`). Assumes nothing.
 use borrow.Author.Needs.{needs}
 use mathlib.Core.Path.{ap₂, _∙_}
 use mathlib.Core.Bool.{_&&_}

@@ -1,4 +1,4 @@
--- `word_writes::port_pins`: the eight pins of the port that the row names. Assumes nothing.
+-- `words_writes::port_pins`: the eight pins of the port that the row names. Assumes nothing.
 use borrow.Author.Needs.{needs}
 use mathlib.Core.Path.{ap, _∙_}
 use Prim.Native.Nat.{ℕ}

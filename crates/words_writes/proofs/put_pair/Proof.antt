@@ -1,4 +1,4 @@
--- `word_writes::put_pair`: one merge after the other. Assumes nothing.
+-- `words_writes::put_pair`: one merge after the other. Assumes nothing.
 use borrow.Author.Needs.{needs}
 use mathlib.Core.Path.{ap, _∙_}
 use mathlib.Core.List.{List}

@@ -1,4 +1,4 @@
--- `word_writes::store`: by the rule, merged into one word or two, or nothing. Assumes nothing.
+-- `words_writes::store`: by the rule, merged into one word or two, or nothing. Assumes nothing.
 use borrow.Author.Needs.{needs}
 use mathlib.Core.Path.{refl, sym, ap, _∙_}
 use mathlib.Core.Bool.{Bool, not, _&&_}

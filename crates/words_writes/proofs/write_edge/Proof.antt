@@ -1,4 +1,4 @@
--- `word_writes::write_edge`: the fields are merged into its two words, and the pins move by their rule. Assumes nothing.
+-- `words_writes::write_edge`: the fields are merged into its two words, and the pins move by their rule. Assumes nothing.
 use borrow.Author.Needs.{needs}
 use mathlib.Core.Path.{refl, sym, ap₂}
 use mathlib.Core.Bool.{Bool}

@@ -1,4 +1,4 @@
--- `word_writes::write_register`: each arm is the law of its rule. Assumes nothing.
+-- `words_writes::write_register`: each arm is the law of its rule. Assumes nothing.
 use borrow.Author.Needs.{needs}
 use mathlib.Core.Path.{refl, sym, ap, _∙_}
 use mathlib.Core.Bool.{Bool, not, _&&_, _||_}

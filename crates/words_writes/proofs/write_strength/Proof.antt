@@ -1,4 +1,4 @@
--- `word_writes::write_strength`: the fields are merged into its two words, and no pin moves. Assumes nothing.
+-- `words_writes::write_strength`: the fields are merged into its two words, and no pin moves. Assumes nothing.
 use borrow.Author.Needs.{needs}
 use mathlib.Core.Path.{refl, sym}
 use Prim.Native.Nat.{_<_}

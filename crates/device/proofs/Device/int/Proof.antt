@@ -1,3 +1,4 @@
+-- `Device::int`: packed, the words' INT is the image's; not packed, 3 and asserted (`asked`, `refused`). Assumes nothing.
 use borrow.Author.Needs.{needs}
 use mathlib.Core.Path.{ap, _∙_}
 use borrow.Author.Tests.{not-true, not-false}

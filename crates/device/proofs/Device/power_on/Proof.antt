@@ -1,3 +1,4 @@
+-- `Device::power_on`: the state is the rules' at power-on; where it is refused no step takes it (`made-of`). Assumes nothing.
 use borrow.Author.Needs.{needs}
 use Rattle.device_rules.proofs.Making.{made-of}
 use Rattle.device.proofs.Device.power_on.Statement.{statement}

@@ -1,3 +1,4 @@
+-- `Device::show`: 3 before 2; else the byte that the words show is the image's (`asked`, `refused`). Assumes nothing.
 use borrow.Author.Needs.{needs}
 use mathlib.Core.Path.{sym, ap, _∙_}
 use native.Mathlib.Omega.{arith}

@@ -1,3 +1,4 @@
+-- `Device::step`: packed, stepped on the words, unpacked (`unpacked`); an image that does not pack is refused with 3. Assumes nothing.
 use borrow.Author.Needs.{needs}
 use mathlib.Core.Path.{ap, ap₂, _∙_}
 use borrow.Author.Tests.{not-true, not-false}
