@@ -5,7 +5,11 @@ use Rattle.words_writes.proofs.write_latch.Statement.{statement}
 use Rattle.words_writes.proofs.write_latch.Tie as tie
 
 returns : tie.Need-returns
-returns c = λ width d. put-back _ width (c .before .before .before .before .before .before .before .sets-in .ensures) (c .before .before .before .before .write-latch .ensures width) (c .before .before .put .ensures) (c .put-sets .ensures) d
+returns c =
+    let put = c .before .before in
+    let written = put .before .before in
+    let sets = written .before .before .before in
+    λ width d. put-back _ width (sets .sets-in .ensures) (written .write-latch .ensures width) (put .put .ensures) (c .put-sets .ensures) d
 
 pub write-latch-spec : {M : Type 1} → statement M
 write-latch-spec =
