@@ -1,33 +1,13 @@
 // The service engineer's command: plan START GOAL, or lines START<tab>GOAL on standard input.
 use libc::STDERR_FILENO;
 use libc::STDOUT_FILENO;
+use plan_lines::ROOM;
 use plan_lines::Reading;
-use planner_promise::Planned;
-
-// A tab and a write's register and value.
-fn say_write(register: u8, value: u8) {
-    let a = text::hex2(register);
-    let b = text::hex2(value);
-    io::write_all(STDOUT_FILENO, &[b'\t', a[0], a[1], b[0], b[1]]);
-}
-
-// The line of a plan of n writes.
-fn say_plan(pairs: &[u8; 32], n: usize) {
-    io::write_all(STDOUT_FILENO, b"plan");
-    let mut i = 0;
-    while i < 16 {
-        if i < n {
-            say_write(pairs[2 * i], pairs[2 * i + 1]);
-        }
-        i += 1;
-    }
-    io::write_all(STDOUT_FILENO, b"\n");
-}
 
 fn say_refusal(number: u8) {
-    let text = text::hex2(number);
-    io::write_all(STDOUT_FILENO, b"refused\t");
-    io::write_all(STDOUT_FILENO, &[text[1], b'\n']);
+    let mut out = [0u8; ROOM];
+    let end = plan_lines::put_refusal(&mut out, 0, number);
+    io::write_all(STDOUT_FILENO, &out[0..end]);
 }
 
 // What was wrong with a start or a goal, for a person.
@@ -74,47 +54,18 @@ fn explain(start: &[u8; 10], goal: &[u8; 10]) {
     }
 }
 
-// The answer to one whole line.
+// The answer to one whole line, and for a person what is wrong with it.
 fn answer(r: Reading) {
-    let number = plan_lines::line_refusal(r);
-    if number != 0 {
-        say_refusal(number);
-        explain_setting(number);
-        return;
+    let mut out = [0u8; ROOM];
+    let told = plan_lines::answer(r, &mut out, 0);
+    let end = told.end;
+    io::write_all(STDOUT_FILENO, &out[0..end]);
+    explain_setting(told.refusal);
+    if told.refusal == 4 {
+        let first = r.start;
+        let second = r.goal;
+        explain(&first.bytes, &second.bytes);
     }
-    let first = r.start;
-    let second = r.goal;
-    let start = first.bytes;
-    let goal = second.bytes;
-    let mut pairs = [0u8; 32];
-    let planned = planner::plan(&start, &goal, &mut pairs);
-    let Planned::Writes(n) = planned else {
-        refused(planned, &start, &goal);
-        return;
-    };
-    say_plan(&pairs, n);
-}
-
-fn refused(planned: Planned, start: &[u8; 10], goal: &[u8; 10]) {
-    let Planned::Refused(number) = planned else {
-        return;
-    };
-    say_refusal(number);
-    explain_setting(number);
-    if number == 4 {
-        explain(start, goal);
-    }
-}
-
-// Every byte of s, taken.
-fn take_all(r: Reading, s: &[u8]) -> Reading {
-    let mut reading = r;
-    let mut i = 0;
-    while i < s.len() {
-        reading = plan_lines::take(reading, s[i]);
-        i += 1;
-    }
-    reading
 }
 
 // The two arguments, as one line.
@@ -125,13 +76,14 @@ fn from_arguments() {
         say_refusal(7);
         return;
     }
-    let first = take_all(plan_lines::begin(), &word[..n]);
+    let start = plan_lines::grow(plan_lines::begin(), &word[0..n]);
     let m = os::arg(2, &mut word);
     if os::errno() != 0 {
         say_refusal(7);
         return;
     }
-    answer(take_all(plan_lines::take(first, b'\t'), &word[..m]));
+    let tab = plan_lines::grow(start, b"\t");
+    answer(plan_lines::grow(tab, &word[0..m]));
 }
 
 // Lines that came in pieces: what is read of the present one, and whether it holds a byte.
@@ -140,23 +92,24 @@ struct Lines {
     any: bool,
 }
 
-// Every line that ends in this piece is answered.
+// Every line that ends in this piece is answered; the rest of the piece begins the next line.
 fn answer_piece(l: Lines, piece: &[u8]) -> Lines {
     let mut reading = l.reading;
     let mut any = l.any;
-    let mut i = 0;
-    while i < piece.len() {
-        if piece[i] == b'\n' {
-            answer(reading);
-            reading = plan_lines::begin();
-            any = false;
-        } else {
-            reading = plan_lines::take(reading, piece[i]);
-            any = true;
-        }
-        i += 1;
+    let mut rest = piece;
+    let mut newline = text_pieces::newline_at(rest);
+    while newline < rest.len() {
+        answer(plan_lines::grow(reading, &rest[0..newline]));
+        reading = plan_lines::begin();
+        any = false;
+        let next = newline + 1;
+        rest = &rest[next..];
+        newline = text_pieces::newline_at(rest);
     }
-    Lines { reading, any }
+    Lines {
+        reading: plan_lines::grow(reading, rest),
+        any: any | (0 < rest.len()),
+    }
 }
 
 fn from_input() {

@@ -1,4 +1,5 @@
--- What is asked of the planner, byte by byte: a line START<tab>GOAL of lowercase hex digits, of any length.
+-- How a line of any length is taken byte by byte, in bounded memory; `Lines` has what it says.
+use mathlib.Core.Path.{_≡_}
 use mathlib.Core.Bool.{Bool, true, false, cond, not, _&&_}
 use mathlib.Core.List.{List, [], _∷_}
 use Prim.Native.Nat.{ℕ, _+_, _*_, _%_}
@@ -45,3 +46,12 @@ unfoldable pub lineRefusal : Reading → ℕ
 lineRefusal r =
     cond (((not (r .bad) && eqb (r .tabs) 1) && eqb (r .start .high) 16) && eqb (r .goal .high) 16)
     (cond (eqb (r .start .count) 10 && eqb (r .goal .count) 10) 0 5) 7
+
+-- All bytes of a part.
+unfoldable pub takenAll : Reading → (part : List ℕ) → Reading
+takenAll r [] = r
+takenAll r (b ∷ part) = takenAll (taken r b) part
+
+-- The reading is that of this text.
+abbrev pub Holds : Reading → (text : List ℕ) → Type 0
+Holds r text = r ≡ takenAll begun text

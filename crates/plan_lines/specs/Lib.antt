@@ -1,1 +1,3 @@
 pub mod Asks
+pub mod Lines
+pub mod Told

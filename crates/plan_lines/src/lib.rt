@@ -1,7 +1,16 @@
 // What is asked of the planner, taken byte by byte, so that a line of any length needs no more memory than a short one.
+// The line's answer, written into lent memory.
 ghost use mathlib.Core.Path.{_≡_};
-ghost use Prim.Native.Nat.{_<_};
-ghost use Rattle.plan_lines.specs.Asks.{begun, byteTaken, digitTaken, withDigit, taken, lineRefusal};
+ghost use mathlib.Core.List.{List, [], _++_};
+ghost use Prim.Native.Nat.{ℕ, _+_, _*_, _<_, _≤_};
+ghost use lib.ListN.{length};
+ghost use Rattle.text.specs.Text.{Wrote};
+ghost use Rattle.text_answers.specs.Answers.{refusedLine};
+ghost use Rattle.planner_promise.specs.Promise.{refusalOf, countOf};
+ghost use Rattle.plan_lines.specs.Asks.{byteTaken, digitTaken, withDigit, taken, lineRefusal, Holds};
+ghost use Rattle.plan_lines.specs.Told.{writeText, pairsText, planLine, plannedText, Tells};
+use device_rules::Answer;
+use planner_promise::Planned;
 
 // One field of the line: its first ten bytes, how many there are (11 for more), the digit that waits (16 for none).
 pub struct Field {
@@ -47,7 +56,7 @@ fn digit_taken(mut f: Field, d: u8) -> Field
 
 // Before the first byte of a line.
 pub fn begin() -> Reading
-    ensures { λ r. ⌜ r ≡ begun ⌝ }
+    ensures { λ r. ⌜ Holds r [] ⌝ }
 {
     let none = [0u8; 10];
     let empty = Field {
@@ -89,7 +98,7 @@ fn with_digit(r: Reading, d: u8) -> Reading
 }
 
 // A byte of the line.
-pub fn take(mut r: Reading, b: u8) -> Reading
+fn take(mut r: Reading, b: u8) -> Reading
     ensures { λ y. ⌜ y ≡ taken r b ⌝ }
 {
     let tabs = r.tabs;
@@ -109,8 +118,21 @@ pub fn take(mut r: Reading, b: u8) -> Reading
     r
 }
 
+// The reading with these bytes more.
+pub fn grow(r: Reading, part: &[u8]) -> Reading
+    ensures { λ y. ⌜ ((text : List ℕ) → Holds r text → Holds y (text ++ now (part .entry))) ⌝ }
+{
+    let mut reading = r;
+    let mut i = 0;
+    while i < part.len() {
+        reading = take(reading, part[i]);
+        i += 1;
+    }
+    reading
+}
+
 // What the line is refused for before the planner is asked; 0 for nothing.
-pub fn line_refusal(r: Reading) -> u8
+fn line_refusal(r: Reading) -> u8
     ensures { λ n. ⌜ n ≡ lineRefusal r ⌝ }
 {
     let start = r.start;
@@ -126,4 +148,96 @@ pub fn line_refusal(r: Reading) -> u8
         return 5;
     }
     7
+}
+
+// Puts a refusal's line into out from at on, and says where it ends.
+pub fn put_refusal(out: &mut [u8], at: usize, number: u8) -> usize
+    requires { ⌜ at + 26 ≤ length (now out) ⌝ }
+    ensures { λ r. ⌜ Wrote (now (out .entry)) at (refusedLine number) r (now (out .exit)) × (r ≤ at + 26) ⌝ }
+{
+    text_answers::put_line(out, at, Answer::Refused(number), false, 0, 0)
+}
+
+fn put_write(out: &mut [u8], at: usize, register: u8, value: u8) -> usize
+    requires { ⌜ at + 5 ≤ length (now out) ⌝ }
+    ensures { λ r. ⌜ Wrote (now (out .entry)) at (writeText register value) r (now (out .exit)) × (r ≡ at + 5) ⌝ }
+{
+    let a = text::hex2(register);
+    let b = text::hex2(value);
+    text::put(out, at, &[b'\t', a[0], a[1], b[0], b[1]])
+}
+
+// The writes of a plan, each a register and a value.
+fn put_writes(out: &mut [u8], at: usize, pairs: &[u8]) -> usize
+    requires { ⌜ 2 * at + 5 * length (now pairs) ≤ 2 * length (now out) ⌝ }
+    ensures { λ r. ⌜ Wrote (now (out .entry)) at (pairsText (now (pairs .entry))) r (now (out .exit)) × (2 * r ≤ 2 * at + 5 * length (now (pairs .entry))) ⌝ }
+{
+    let mut rest = pairs;
+    let mut end = at;
+    while 1 < rest.len() {
+        end = put_write(out, end, rest[0], rest[1]);
+        rest = &rest[2..];
+    }
+    end
+}
+
+// The line of a plan.
+fn put_plan(out: &mut [u8], at: usize, pairs: &[u8]) -> usize
+    requires { ⌜ (length (now pairs) ≤ 32) × (at + 85 ≤ length (now out)) ⌝ }
+    ensures { λ r. ⌜ Wrote (now (out .entry)) at (planLine (pairsText (now (pairs .entry)))) r (now (out .exit)) × (r ≤ at + 85) ⌝ }
+{
+    let word = text::put(out, at, b"plan");
+    let end = put_writes(out, word, pairs);
+    text::put(out, end, b"\n")
+}
+
+// An answer's room: `plan`, sixteen writes and a newline.
+pub const ROOM: usize = 85;
+
+// Where an answer ends, and the number of its refusal, 0 for a plan.
+pub struct Told {
+    pub end: usize,
+    pub refusal: u8,
+}
+
+// What the planner answered, with the writes that it laid.
+fn put_planned(out: &mut [u8], at: usize, planned: Planned, pairs: &[u8]) -> Told
+    requires { ⌜ (countOf planned ≤ 16) × (length (now pairs) ≡ 32) × (at + 85 ≤ length (now out)) ⌝ }
+    ensures { λ t. ⌜ Wrote (now (out .entry)) at (plannedText planned (now (pairs .entry))) (t .end) (now (out .exit))
+        × (t .refusal ≡ refusalOf planned) × (t .end ≤ at + 85) ⌝ }
+{
+    match planned {
+        Planned::Writes(n) => {
+            let last = 2 * n;
+            Told {
+                end: put_plan(out, at, &pairs[0..last]),
+                refusal: 0,
+            }
+        }
+        Planned::Refused(number) => Told {
+            end: put_refusal(out, at, number),
+            refusal: number,
+        },
+    }
+}
+
+// The whole line's answer, written from at on.
+pub fn answer(r: Reading, out: &mut [u8], at: usize) -> Told
+    requires { ⌜ at + 85 ≤ length (now out) ⌝ }
+    ensures { λ t. ⌜ ((line : List ℕ) → Holds r line → Tells line (now (out .entry)) at (t .end) (t .refusal) (now (out .exit))) × (t .end ≤ at + 85) ⌝ }
+{
+    let number = line_refusal(r);
+    if number != 0 {
+        return Told {
+            end: put_refusal(out, at, number),
+            refusal: number,
+        };
+    }
+    let first = r.start;
+    let second = r.goal;
+    let start = first.bytes;
+    let goal = second.bytes;
+    let mut pairs = [0u8; 32];
+    let planned = planner::plan(&start, &goal, &mut pairs);
+    put_planned(out, at, planned, &pairs)
 }

@@ -1,0 +1,117 @@
+-- The answer to a line, from what was heard of it and what the planner answered. Assumes nothing.
+use mathlib.Core.Path.{_≡_, refl, ap, sym, _∙_}
+use mathlib.Core.Bool.{Bool, true, false, and-false}
+use mathlib.Core.List.{List, [], _∷_}
+use Prim.Native.Nat.{ℕ, _*_, _≤_}
+use native.Mathlib.Omega.{arith}
+use borrow.Author.Tests.{eqb-true}
+use lib.Dec.{eqb}
+use lib.ListN.{length, take, drop, length-append}
+use lib.Seq.{take-at}
+use Rattle.text.specs.Text.{Wrote}
+use Rattle.text.proofs.Laws.{wrote-as}
+use Rattle.text_answers.specs.Answers.{refusedLine}
+use Rattle.planner_quiet.specs.Settings.{Write}
+use Rattle.planner_promise.specs.Formed.{formed}
+use Rattle.planner_promise.specs.Promise.{bytesOf, refusalOf, countOf}
+use Rattle.planner_promise.specs.Answer.{Answer, refuse, give, answerOf, Answers}
+use Rattle.planner_promise.specs.declared.Planned.{Planned}
+use Rattle.plan_lines.specs.declared.Reading.{Reading}
+use Rattle.plan_lines.specs.Asks.{begun, takenAll, lineRefusal, Holds}
+use Rattle.plan_lines.specs.Lines.{readable, startIn, goalIn}
+use Rattle.plan_lines.specs.Told.{room, answerTo, writesText, planLine, answerText, planText, refusalIn, pairsText, plannedText, Tells}
+use Rattle.plan_lines.proofs.Heard.{refused-seven, refused-five, start-heard, goal-heard}
+
+-- ---- what the planner answered, as text
+bytes-length : (ws : List Write) → length (bytesOf ws) ≡ 2 * length ws
+bytes-length [] = omega arith
+bytes-length (w ∷ ws) = omega (arith, bytes-length ws)
+
+pairs-text : (ws : List Write) → pairsText (bytesOf ws) ≡ writesText ws
+unfolding pairsText writesText
+pairs-text [] = refl
+pairs-text (w ∷ ws) = rw (pairs-text ws)
+
+module _ (r : Planned) (before after : List ℕ) where
+  pub few-writes : (a : Answer) → Answers r before after a → length after ≡ 32 → countOf r ≤ 16
+  few-writes (refuse c) (e, f) all = omega (arith, ap countOf e)
+  few-writes (give ws) (e, f) all =
+      omega (arith, all, ap countOf e, ap length f, length-append (bytesOf ws) (drop (2 * length ws) before), bytes-length ws)
+
+  answer-text : (a : Answer) → Answers r before after a → plannedText r after ≡ answerText a
+  answer-text (refuse c) (e, f) = ap (λ (p : Planned). plannedText p after) e
+  answer-text (give ws) (e, f) =
+      ap (λ (p : Planned). plannedText p after) e
+      ∙ ap planLine
+      (ap (λ (s : List ℕ). pairsText (take (2 * length ws) s)) f
+      ∙ ap pairsText (take-at (bytesOf ws) (drop (2 * length ws) before) (2 * length ws) (bytes-length ws)) ∙ pairs-text ws)
+
+  answer-number : (a : Answer) → Answers r before after a → refusalOf r ≡ refusalIn a
+  answer-number (refuse c) (e, f) = ap refusalOf e
+  answer-number (give ws) (e, f) = ap refusalOf e
+
+-- ---- settings that are not ten bytes
+module _ (start goal : List ℕ) (n : ℕ) where
+  pub five-start : eqb (length start) 10 ≡ false → answerOf start goal n ≡ refuse 5
+  unfolding answerOf
+  five-start h = rw h
+
+  pub five-goal : eqb (length goal) 10 ≡ false → answerOf start goal n ≡ refuse 5
+  unfolding answerOf
+  five-goal h = rw (h, and-false (formed start))
+
+-- ---- the line
+module _ (line : List ℕ) (r : Reading) (held : Holds r line) (n : ℕ) (heard : n ≡ lineRefusal r) where
+  number-is : {k : ℕ} → lineRefusal (takenAll begun line) ≡ k → n ≡ k
+  number-is e = heard ∙ ap lineRefusal held ∙ e
+
+  line-refused : (n ≡ 0 → ⊥) → answerTo line ≡ refuse n
+  unfolding answerTo
+  line-refused h = go (readable line) refl
+    where
+      five : readable line ≡ true → (s g : Bool) → eqb (length (startIn line)) 10 ≡ s → eqb (length (goalIn line)) 10 ≡ g → answerTo line ≡ refuse n
+      five t false g e f =
+          let k : n ≡ 5 = number-is (refused-five line t ∙ rw e) in
+          rw t (five-start (startIn line) (goalIn line) room e ∙ ap refuse (sym k))
+      five t true false e f =
+          let k : n ≡ 5 = number-is (refused-five line t ∙ rw (e, f)) in
+          rw t (five-goal (startIn line) (goalIn line) room f ∙ ap refuse (sym k))
+      five t true true e f = absurd (h (number-is (refused-five line t ∙ rw (e, f))))
+
+      go : (t : Bool) → readable line ≡ t → answerTo line ≡ refuse n
+      go true t = five t (eqb (length (startIn line)) 10) (eqb (length (goalIn line)) 10) refl refl
+      go false t = let k : n ≡ 7 = number-is (refused-seven line t) in rw t (ap refuse (sym k))
+
+  line-asked : n ≡ 0 → answerTo line ≡ answerOf (r .start .bytes) (r .goal .bytes) room
+  unfolding answerTo
+  line-asked z = go (readable line) refl
+    where
+      ten : readable line ≡ true → (s g : Bool) → eqb (length (startIn line)) 10 ≡ s → eqb (length (goalIn line)) 10 ≡ g
+          → answerTo line ≡ answerOf (r .start .bytes) (r .goal .bytes) room
+      ten t false g e f = let k : n ≡ 5 = number-is (refused-five line t ∙ rw e) in absurd (omega (arith, z, k))
+      ten t true false e f = let k : n ≡ 5 = number-is (refused-five line t ∙ rw (e, f)) in absurd (omega (arith, z, k))
+      ten t true true e f =
+          let a = start-heard line t (eqb-true (length (startIn line)) 10 e) in
+          let b = goal-heard line t (eqb-true (length (goalIn line)) 10 f) in
+          rw (t, held, a, b)
+
+      go : (t : Bool) → readable line ≡ t → answerTo line ≡ answerOf (r .start .bytes) (r .goal .bytes) room
+      go true t = ten t (eqb (length (startIn line)) 10) (eqb (length (goalIn line)) 10) refl refl
+      go false t = let k : n ≡ 7 = number-is (refused-seven line t) in absurd (omega (arith, z, k))
+
+  module _ {out left : List ℕ} {at end : ℕ} where
+    pub refused-tells : (n ≡ 0 → ⊥) → Wrote out at (refusedLine n) end left → Tells line out at end n left
+    unfolding planText
+    refused-tells h w = let e = line-refused h in record { wrote = wrote-as (ap answerText (sym e)) w; told = ap refusalIn (sym e) }
+
+    pub planned-tells : n ≡ 0 → (p : Planned) (before after : List ℕ) → length before ≡ room
+        → Answers p before after (answerOf (r .start .bytes) (r .goal .bytes) (length before))
+        → Wrote out at (plannedText p after) end left → {k : ℕ} → k ≡ refusalOf p → Tells line out at end k left
+    unfolding planText
+    planned-tells z p before after all answers w e =
+        let a : Answer = answerOf (r .start .bytes) (r .goal .bytes) (length before) in
+        let same : a ≡ answerTo line = ap (answerOf (r .start .bytes) (r .goal .bytes)) all ∙ sym (line-asked z) in
+        record {
+          wrote = wrote-as (answer-text p before after a answers ∙ ap answerText same) w;
+          told = e ∙ answer-number p before after a answers ∙ ap refusalIn same;
+        }

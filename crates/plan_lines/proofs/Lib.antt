@@ -1,0 +1,5 @@
+pub mod Taken
+pub mod Heard
+pub mod Writing
+pub mod Answering
+pub mod Whole

@@ -1,0 +1,11 @@
+use mathlib.Core.Path.{refl}
+use Rattle.plan_lines.specs.Asks.{takenAll}
+use Rattle.plan_lines.proofs.begin.Statement.{statement}
+use Rattle.plan_lines.proofs.begin.Tie as tie
+
+returns : tie.Need-returns
+unfolding takenAll
+returns c = refl
+
+pub begin-spec : {M : Type 1} → statement M
+begin-spec = tie.close (tie.spec returns)
