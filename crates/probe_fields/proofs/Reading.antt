@@ -1,4 +1,4 @@
--- A line's form, and the numbers that its digits say. Assumes nothing.
+-- A line has its form if each place holds what the form asks there, and the digits of a field say its number. Assumes nothing.
 use mathlib.Core.Path.{_≡_, refl, ap, sym, _∙_}
 use mathlib.Core.Bool.{Bool, true, false, cond, _&&_, _||_, Bool·beq}
 use mathlib.Core.List.{List, [], _∷_, _++_, append-nil}
@@ -12,7 +12,7 @@ use Rattle.bits.proofs.Decide.{decide-below, beq→eq, and-right, clash}
 use Rattle.text.specs.declared.Digits.{Digits}
 use Rattle.text.specs.declared.Digits.the-variants.{Number, None}
 use Rattle.text.specs.Text.{digitOf, fieldOf}
-use Rattle.trace_lines.proofs.Laws.{field-small}
+use Rattle.text.proofs.Laws.{field-small}
 use Rattle.probe_fields.specs.Fields.{form, hasForm, lineForm, readable, numberAt, bytesAt}
 
 -- ---- tabs and digits at their places

@@ -1,4 +1,4 @@
--- The bytes' text. Assumes nothing.
+-- Bytes written two digits at a time, and fields one after the other, are the text of them all. Assumes nothing.
 use mathlib.Core.Path.{_≡_, refl, ap, sym, _∙_}
 use mathlib.Core.List.{List, [], _∷_, _++_, append-assoc, append-nil}
 use Prim.Native.Nat.{ℕ, _+_, _*_, _<_, _≤_}

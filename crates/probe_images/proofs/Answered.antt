@@ -1,4 +1,4 @@
--- A line that has begun, and the image after the step that a line asks. Assumes nothing.
+-- Of a line that has begun 360 bytes say as much as all of it, and a step that is not refused leaves an image that fits. Assumes nothing.
 use mathlib.Core.Path.{_≡_, refl, sym, ap, _∙_}
 use mathlib.Core.Bool.{Bool, true, false}
 use mathlib.Core.List.{List, _++_}

@@ -1,10 +1,9 @@
--- What a line says, and what it is answered. Assumes nothing.
+-- What is read field by field is the image that the line says, and the step on it is the line's answer. Assumes nothing.
 use mathlib.Core.Path.{_≡_}
 use mathlib.Core.Bool.{Bool, true, false}
 use mathlib.Core.List.{List}
 use Prim.Native.Nat.{ℕ}
-use Rattle.device_rules.specs.declared.Answer.the-variants.{Refused}
-use Rattle.text_answers.specs.Answers.{answerLine}
+use Rattle.text_answers.specs.Answers.{refusedLine}
 use Rattle.map.specs.Map.{part24}
 use Rattle.registers.specs.Registers.{core}
 use Rattle.device_rules.specs.Device.{State, Outcome, state}
@@ -26,8 +25,8 @@ step-is line i k a o = rw (← i, ← k, ← a) o
 
 -- ---- what a line is answered
 module _ (line : List ℕ) {t : Bool} (read : t ≡ readable line) where
-  pub unreadable-text : t ≡ false → answerLine (Refused 7) false 0 0 ≡ probeText line
-  unfolding probeText answerLine
+  pub unreadable-text : t ≡ false → refusedLine 7 ≡ probeText line
+  unfolding probeText
   unreadable-text e = rw (← read, e)
 
   pub probed-text : t ≡ true → {o : Outcome} → o ≡ stepped part24 (imageIn line) (kindIn line) (argumentIn line) → probeLine o ≡ probeText line

@@ -1,14 +1,14 @@
 -- State images as text: what a line of the probe program says, and the line that answers it. Lines are given without their newline.
 use mathlib.Core.Bool.{cond}
 use mathlib.Core.List.{List, [], _∷_, _++_}
-use Prim.Native.Nat.{ℕ, _-_}
-use lib.ListN.{length, take, drop}
+use Prim.Native.Nat.{ℕ}
+use lib.ListN.{drop}
 use Rattle.pins.specs.declared.Sets.{Sets}
 use Rattle.map.specs.Map.{part24}
 use Rattle.registers.specs.Registers.{core}
 use Rattle.device_rules.specs.Device.{State, Outcome, state}
 use Rattle.device_rules.specs.Refusals.{stepped}
-use Rattle.text_answers.specs.Answers.{lineEnd, shownLine, refusedLine}
+use Rattle.text_answers.specs.Answers.{unlessRefused, newline, shownText, refusedLine}
 use Rattle.probe_fields.specs.Fields.{widths, readable, bytesAt, numberIn, bytesText, fieldsText}
 
 -- ---- what a readable line says
@@ -33,12 +33,9 @@ imageText s =
     (s .regs .sets .level ∷ s .regs .sets .reference ∷ s .regs .sets .held ∷ s .regs .sets .edge ∷ s .pointer ∷ s .bus ∷ s .choice ∷ [])
 
 -- ---- the answer
-abbrev pub unended : (line : List ℕ) → List ℕ
-unended line = take (length line - 1) line
-
 -- as a trace tells the event; then the image after it, which no refusal has, and the newline
 unfoldable pub probeLine : Outcome → List ℕ
-probeLine o = unended (shownLine o) ++ lineEnd (o .answer) (imageText (o .after) ++ (0x0a ∷ []))
+probeLine o = shownText o ++ (unlessRefused (o .answer) (imageText (o .after)) ++ newline)
 
 -- One step on the image that a line says; refusal 7 where it is not readable.
 unfoldable pub probeText : (line : List ℕ) → List ℕ

@@ -8,12 +8,12 @@ ghost use Rattle.map.specs.Map.{part24};
 ghost use Rattle.device_rules.specs.Device.{out as outcome};
 ghost use Rattle.device_rules.specs.Refusals.{stepped, imageFits};
 ghost use Rattle.device.specs.Held.{stateIn};
-ghost use Rattle.probe_images.specs.Images.{imageIn, kindIn, argumentIn, imageText, unended, probeLine, probeText};
+ghost use Rattle.probe_images.specs.Images.{imageIn, kindIn, argumentIn, imageText, probeLine, probeText};
 ghost use mathlib.Core.Bool.{true};
 ghost use Prim.Native.Nat.{_+_, _≤_, ℕ};
 ghost use Rattle.device_rules.specs.Answers.{refusalNumber};
 ghost use Rattle.text.specs.Text.{Wrote};
-ghost use Rattle.text_answers.specs.Answers.{shownLine};
+ghost use Rattle.text_answers.specs.Answers.{shownText};
 ghost use mathlib.Core.List.{List, [], _++_};
 ghost use Rattle.probe_images.specs.Begun.{Holds};
 use device::Device;
@@ -67,10 +67,10 @@ fn put_image(out: &mut [u8], at: usize, d: Device) -> usize
     probe_fields::put_bus(out, pins, d.pointer, d.bus, d.choice)
 }
 
-// The line with which a trace tells an answer, without its newline. A refusal's shows nothing of the device, whose image may be a broken one.
+// The text with which a trace tells an answer. A refusal's shows nothing of the device, whose image may be a broken one.
 fn put_answer(out: &mut [u8], at: usize, d: Device, answer: Answer) -> usize
-    requires { ⌜ (refusalNumber answer ≡ 0 → imageFits part24 (stateIn d) ≡ true) × (at + 20 ≤ length (now out)) ⌝ }
-    ensures { λ r. ⌜ Wrote (now (out .entry)) at (unended (shownLine (outcome answer (stateIn d)))) r (now (out .exit)) × (r ≤ at + 20) ⌝ }
+    requires { ⌜ (refusalNumber answer ≡ 0 → imageFits part24 (stateIn d) ≡ true) × (at + 25 ≤ length (now out)) ⌝ }
+    ensures { λ r. ⌜ Wrote (now (out .entry)) at (shownText (outcome answer (stateIn d))) r (now (out .exit)) × (r ≤ at + 19) ⌝ }
 {
     let file = d.file;
     let pointer = d.pointer as u64;
@@ -81,9 +81,7 @@ fn put_answer(out: &mut [u8], at: usize, d: Device, answer: Answer) -> usize
     let int = words_views::int(&words);
     let low = words_views::low(&words, PINS24);
     let high = words_views::high(&words);
-    let mut line = [0u8; 26];
-    let end = text_answers::put_line(&mut line, 0, answer, int, low, high) - 1;
-    text::put(out, at, &line[0..end])
+    text_answers::put_answer(out, at, answer, int, low, high)
 }
 
 // The answer, and behind it the image after the step; a refusal has no image.

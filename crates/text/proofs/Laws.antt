@@ -1,19 +1,20 @@
--- One turn of each loop, over plain lists. Assumes nothing.
+-- One turn of each loop, over plain lists; what a byte's digits are is tried at each byte. Assumes nothing.
 use mathlib.Core.Path.{_≡_, refl, ap, sym, _∙_}
-use mathlib.Core.Bool.{false, cond, and-false}
+use mathlib.Core.Bool.{Bool, true, false, cond, and-false}
 use mathlib.Core.List.{List, [], _∷_, _++_}
-use Prim.Native.Nat.{ℕ, zero, suc, _+_, _-_, _*_, _/_, _%_, _^_, _<_, _≤_}
+use Prim.Native.Nat.{ℕ, zero, suc, _+_, _*_, _/_, _%_, _^_, _<_, _≤_}
 use native.Mathlib.Numerals.{add-one}
 use native.Mathlib.Nat.{pow-suc, pow-le-pow-right, lt-of-lt-of-le}
 use native.Mathlib.Omega.{arith}
-use lib.Dec.{eqb, ltb, lit<}
+use lib.Dec.{eqb, leb, ltb, lit<}
 use lib.Bits.{bitAnd, and-le-r}
 use lib.ListN.{length, drop, getD, set, length-append}
 use lib.Seq.{drop-cons, sets, length-sets, set-comm}
-use borrow.Author.Tests.{ne-eqb, eq-eqb, lt-ltb, le-ltb, le-leb, lt-leb}
+use borrow.Author.Tests.{ne-eqb, eq-eqb, lt-ltb, le-ltb, le-leb, lt-leb, leb-true}
 use Rattle.bits.proofs.Decide.{each}
+use Rattle.text.specs.declared.Digits.{Digits}
 use Rattle.text.specs.declared.Digits.the-variants.{Number, None}
-use Rattle.text.specs.Text.{startsWith, digitOf, numberOf, fieldOf, digitByte, hexText, Wrote}
+use Rattle.text.specs.Text.{startsWith, digitOf, numberOf, upTo, fieldOf, Small, digitByte, hexText, Wrote}
 
 pub starts-short : (word text : List ℕ) → length text < length word → startsWith word text ≡ false
 unfolding startsWith
@@ -131,6 +132,26 @@ module _ (count most : ℕ) (text : List ℕ) (all : length text ≡ count) wher
   unfolding fieldOf
   field-read {n} h l = rw (eq-eqb (length text) count all, h, le-leb n most l)
 
+-- a field that is read is most or less
+no-digits : (most : ℕ) → Small most None
+no-digits most = record { small = λ n e. let z : _≡_ {A = ℕ} 0 1 = cc in absurd (omega arith) }
+
+up-to : (most : ℕ) (d : Digits) → Small most (upTo most d)
+up-to most (Number n) = fits (leb n most) refl
+  where
+    fits : (t : Bool) → leb n most ≡ t → Small most (cond t (Number n) None)
+    fits true e = record { small = λ k q. let s : n ≡ k = cc in omega (arith, leb-true n most e) }
+    fits false e = no-digits most
+up-to most None = no-digits most
+
+pub field-small : (count most : ℕ) (text : List ℕ) → Small most (fieldOf count most text)
+unfolding fieldOf
+field-small count most text = go (eqb (length text) count)
+  where
+    go : (t : Bool) → Small most (cond t (upTo most (numberOf 0 text)) None)
+    go true = up-to most (numberOf 0 text)
+    go false = no-digits most
+
 -- two texts, one after the other, are their join
 pub wrote-both : {out middle left s t : List ℕ} {at end last : ℕ} → Wrote out at s end middle → Wrote middle end t last left → Wrote out at (s ++ t) last left
 wrote-both {out} {middle} {left} {s} {t} {at} {end} a b =
@@ -141,6 +162,10 @@ wrote-both {out} {middle} {left} {s} {t} {at} {end} a b =
 
 pub wrote-nothing : (out : List ℕ) (at : ℕ) → Wrote out at [] at out
 wrote-nothing out at = record { ends = omega arith; holds = refl }
+
+-- one byte more, by one store
+pub wrote-byte : {out left s : List ℕ} {at end : ℕ} → Wrote out at s end left → (b : ℕ) → Wrote out at (s ++ (b ∷ [])) (end + 1) (set left end b)
+wrote-byte {out} {left} {s} {at} {end} a b = wrote-both a (record { ends = refl; holds = refl })
 
 pub wrote-length : {out left s : List ℕ} {at end : ℕ} → Wrote out at s end left → length left ≡ length out
 wrote-length {out} {left} {s} {at} a = ap length (a .holds) ∙ length-sets out at s

@@ -2,7 +2,7 @@
 use mathlib.Core.Path.{_≡_}
 use mathlib.Core.Bool.{Bool, false, true, cond, _&&_}
 use mathlib.Core.List.{List, [], _∷_, _++_}
-use Prim.Native.Nat.{ℕ, zero, suc, _+_, _-_, _*_, _/_, _%_}
+use Prim.Native.Nat.{ℕ, zero, suc, _+_, _-_, _*_, _/_, _%_, _≤_}
 use lib.Dec.{eqb, leb, ltb}
 use lib.ListN.{length}
 use lib.Seq.{sets}
@@ -34,6 +34,10 @@ upTo most None = None
 -- so many digits, no more and no fewer, of a number that is most or less
 unfoldable pub fieldOf : (count most : ℕ) → List ℕ → Digits
 fieldOf count most text = cond (eqb (length text) count) (upTo most (numberOf 0 text)) None
+
+-- if they are digits, their number is most or less
+pub record Small (most : ℕ) (d : Digits) : Type 0 where
+  pub small : (n : ℕ) → d ≡ Number n → n ≤ most
 
 -- the digit of a number below 16
 abbrev pub digitByte : ℕ → ℕ

@@ -1,4 +1,4 @@
--- The line that says an answer, with its newline.
+-- The text that says an answer, and the line that is this text and a newline.
 use mathlib.Core.Bool.{Bool, cond}
 use mathlib.Core.List.{List, [], _∷_, _++_}
 use Prim.Native.Nat.{ℕ, _%_}
@@ -19,23 +19,32 @@ answerWord (Refused n) = 0x72 ∷ 0x65 ∷ 0x66 ∷ 0x75 ∷ 0x73 ∷ 0x65 ∷ 0
 
 -- INT's level, 0 where it is asserted, pins driven low and pins driven high, each after a tab
 unfoldable pub columns : (int : Bool) → (low high : ℕ) → List ℕ
-columns int low high = 0x09 ∷ cond int 0x30 0x31 ∷ 0x09 ∷ hexText 6 low ++ (0x09 ∷ hexText 6 high ++ (0x0a ∷ []))
+columns int low high = 0x09 ∷ cond int 0x30 0x31 ∷ 0x09 ∷ hexText 6 low ++ (0x09 ∷ hexText 6 high)
 
--- the columns follow an answer, and only the newline a refusal
-abbrev pub lineEnd : Answer → (columns : List ℕ) → List ℕ
-lineEnd Nothing columns = columns
-lineEnd Ack columns = columns
-lineEnd Nak columns = columns
-lineEnd (Byte b) columns = columns
-lineEnd (Refused n) columns = 0x0a ∷ []
+-- what follows an answer's word; nothing follows a refusal's
+abbrev pub unlessRefused : Answer → (rest : List ℕ) → List ℕ
+unlessRefused Nothing rest = rest
+unlessRefused Ack rest = rest
+unlessRefused Nak rest = rest
+unlessRefused (Byte b) rest = rest
+unlessRefused (Refused n) rest = []
+
+unfoldable pub answerText : Answer → (int : Bool) → (low high : ℕ) → List ℕ
+answerText answer int low high = answerWord answer ++ unlessRefused answer (columns int low high)
+
+abbrev pub newline : List ℕ
+newline = 0x0a ∷ []
 
 unfoldable pub answerLine : Answer → (int : Bool) → (low high : ℕ) → List ℕ
-answerLine answer int low high = answerWord answer ++ lineEnd answer (columns int low high)
+answerLine answer int low high = answerText answer int low high ++ newline
 
--- an event's line: its answer, INT and the pins driven, as they are after it
+-- an event's text and line: its answer, INT and the pins driven, as they are after it
+unfoldable pub shownText : Outcome → List ℕ
+shownText o =
+    answerText (o .answer) (intAsserted part24 (o .after .regs)) (drivenLow part24 (o .after .regs)) (drivenHigh part24 (o .after .regs))
+
 unfoldable pub shownLine : Outcome → List ℕ
-shownLine o =
-    answerLine (o .answer) (intAsserted part24 (o .after .regs)) (drivenLow part24 (o .after .regs)) (drivenHigh part24 (o .after .regs))
+shownLine o = shownText o ++ newline
 
 abbrev pub refusedLine : (number : ℕ) → List ℕ
-refusedLine number = answerWord (Refused number) ++ (0x0a ∷ [])
+refusedLine number = answerWord (Refused number) ++ newline

@@ -1,10 +1,10 @@
-// The line that says an answer, written into lent memory.
+// The text that says an answer, and its line, written into lent memory.
 ghost use mathlib.Core.Path.{_≡_};
 ghost use mathlib.Core.Bool.{cond};
 ghost use Prim.Native.Nat.{_+_, _≤_};
 ghost use lib.ListN.{length};
 ghost use Rattle.text.specs.Text.{Wrote};
-ghost use Rattle.text_answers.specs.Answers.{answerWord, columns, answerLine};
+ghost use Rattle.text_answers.specs.Answers.{answerWord, columns, answerText, answerLine};
 use device_rules::Answer;
 
 fn put_word(out: &mut [u8], at: usize, answer: Answer) -> usize
@@ -38,13 +38,13 @@ fn int_level(int: bool) -> u8
 }
 
 fn put_columns(out: &mut [u8], at: usize, int: bool, low: u64, high: u64) -> usize
-    requires { ⌜ at + 17 ≤ length (now out) ⌝ }
+    requires { ⌜ at + 16 ≤ length (now out) ⌝ }
     ensures { λ r. ⌜ Wrote (now (out .entry)) at (columns int low high) r (now (out .exit)) ⌝ }
 {
     let level = int_level(int);
     let l = text::hex6(low);
     let h = text::hex6(high);
-    let line = [
+    let bytes = [
         b'\t',
         level,
         b'\t',
@@ -61,9 +61,27 @@ fn put_columns(out: &mut [u8], at: usize, int: bool, low: u64, high: u64) -> usi
         h[3],
         h[4],
         h[5],
-        b'\n',
     ];
-    text::put(out, at, &line)
+    text::put(out, at, &bytes)
+}
+
+// Puts the answer, without newline, into out from at on, and says where it ends.
+pub fn put_answer(
+    out: &mut [u8],
+    at: usize,
+    answer: Answer,
+    int: bool,
+    low: u64,
+    high: u64,
+) -> usize
+    requires { ⌜ at + 25 ≤ length (now out) ⌝ }
+    ensures { λ r. ⌜ Wrote (now (out .entry)) at (answerText answer int low high) r (now (out .exit)) ⌝ }
+{
+    let end = put_word(out, at, answer);
+    let Answer::Refused(_) = answer else {
+        return put_columns(out, end, int, low, high);
+    };
+    end
 }
 
 // Puts the line into out from at on, and says where it ends.
@@ -71,9 +89,7 @@ pub fn put_line(out: &mut [u8], at: usize, answer: Answer, int: bool, low: u64, 
     requires { ⌜ at + 26 ≤ length (now out) ⌝ }
     ensures { λ r. ⌜ Wrote (now (out .entry)) at (answerLine answer int low high) r (now (out .exit)) ⌝ }
 {
-    let end = put_word(out, at, answer);
-    let Answer::Refused(_) = answer else {
-        return put_columns(out, end, int, low, high);
-    };
-    text::put(out, end, b"\n")
+    let end = put_answer(out, at, answer, int, low, high);
+    out[end] = b'\n';
+    end + 1
 }

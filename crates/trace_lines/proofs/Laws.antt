@@ -1,39 +1,20 @@
--- What is known of a word that a text begins with, of a field and of a line. Assumes nothing.
+-- Each test of the reader decides one step of what a line says, and a field that is read is small enough for a device or an event that is taken. Assumes nothing.
 use mathlib.Core.Path.{_≡_, refl, _∙_}
-use mathlib.Core.Bool.{Bool, true, false, cond}
+use mathlib.Core.Bool.{true, false}
 use mathlib.Core.List.{List, [], _∷_}
 use Prim.Native.Nat.{ℕ, _-_, _<_, _≤_}
 use native.Mathlib.Omega.{arith}
-use lib.Dec.{eqb, leb, ltb}
+use lib.Dec.{eqb, ltb}
 use lib.ListN.{length, take, drop, length-drop}
 use lib.Seq.{take-all}
-use borrow.Author.Tests.{leb-true, lt-ltb, le-ltb}
+use borrow.Author.Tests.{lt-ltb, le-ltb}
 use Rattle.bits.proofs.Decide.{and-right, either-arm}
 use Rattle.text.specs.declared.Digits.{Digits}
 use Rattle.text.specs.declared.Digits.the-variants.{Number, None}
-use Rattle.text.proofs.Laws.{starts-short}
-use Rattle.text.specs.Text.{startsWith, isWord, fieldOf, numberOf, upTo}
+use Rattle.text.proofs.Laws.{starts-short, field-small}
+use Rattle.text.specs.Text.{startsWith, isWord, fieldOf, Small}
 use Rattle.trace_lines.specs.declared.Line.the-variants.{Event, Unreadable}
-use Rattle.trace_lines.specs.Lines.{lineOf, fieldsOf, deviceOf, eventWith, deviceWith, start, stop, reset, byte, fetch, pins, device, tab, Small, Taken, Means}
-
-no-digits : (most : ℕ) → Small most None
-no-digits most = record { small = λ n e. let z : _≡_ {A = ℕ} 0 1 = cc in absurd (omega arith) }
-
-up-to : (most : ℕ) (d : Digits) → Small most (upTo most d)
-up-to most (Number n) = fits (leb n most) refl
-  where
-    fits : (t : Bool) → leb n most ≡ t → Small most (cond t (Number n) None)
-    fits true e = record { small = λ k q. let s : n ≡ k = cc in omega (arith, leb-true n most e) }
-    fits false e = no-digits most
-up-to most None = no-digits most
-
-pub field-small : (count most : ℕ) (text : List ℕ) → Small most (fieldOf count most text)
-unfolding fieldOf
-field-small count most text = go (eqb (length text) count)
-  where
-    go : (t : Bool) → Small most (cond t (upTo most (numberOf 0 text)) None)
-    go true = up-to most (numberOf 0 text)
-    go false = no-digits most
+use Rattle.trace_lines.specs.Lines.{lineOf, fieldsOf, deviceOf, eventWith, deviceWith, start, stop, reset, byte, fetch, pins, device, tab, Taken, Means}
 
 none : Means Unreadable
 none = record {

@@ -63,10 +63,6 @@ lineOf s =
     cond (ltb 32 (length s)) Unreadable
     (cond (isWord start s) (Event 0 0) (cond (isWord stop s) (Event 1 0) (cond (isWord reset s) (Event 5 0) (fieldsOf s))))
 
--- if they are digits, their number is most or less
-pub record Small (most : ℕ) (d : Digits) : Type 0 where
-  pub small : (n : ℕ) → d ≡ Number n → n ≤ most
-
 -- what an argument of the kind may be at most, where the kind has one
 abbrev pub Taken : (kind arg : ℕ) → Type 0
 Taken kind arg = (kind ≤ 5) × (kind ≡ 2 → arg ≤ 0xff) × (kind ≡ 3 → arg ≤ 1) × (kind ≡ 4 → arg ≤ 0xffffff)

@@ -3,8 +3,8 @@
 ghost use mathlib.Core.Path.{_≡_};
 ghost use Prim.Native.Nat.{_≤_};
 ghost use lib.ListN.{length, drop};
-ghost use Rattle.text.specs.Text.{fieldOf};
-ghost use Rattle.trace_lines.specs.Lines.{eventWith, deviceWith, deviceOf, Small, lineOf, fieldsOf};
+ghost use Rattle.text.specs.Text.{fieldOf, Small};
+ghost use Rattle.trace_lines.specs.Lines.{eventWith, deviceWith, deviceOf, lineOf, fieldsOf};
 use text::Digits;
 
 // What a line says. Event kinds: 0 START, 1 STOP, 2 byte, 3 fetch, 4 levels, 5 hardware reset.

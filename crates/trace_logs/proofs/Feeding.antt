@@ -1,4 +1,4 @@
--- What the code gives for the first line of a piece, for a whole piece and at the end. Assumes nothing.
+-- The code gives the specification's answers for the first line of a piece, so for one line after the other, and at the end. Assumes nothing.
 use mathlib.Core.Path.{_≡_, refl, ap, sym, _∙_}
 use mathlib.Core.Bool.{Bool, true, false, cond}
 use mathlib.Core.List.{List, [], _∷_, _++_}

@@ -1,4 +1,4 @@
--- One line of a piece, and the line that has begun. Assumes nothing.
+-- A piece is its first line and the rest, and of a line that has begun 33 bytes say as much as all of it. Assumes nothing.
 use mathlib.Core.Path.{_≡_, refl, ap, sym, _∙_}
 use mathlib.Core.Bool.{Bool, true, false, cond}
 use mathlib.Core.List.{List, [], _∷_, _++_, append-assoc, append-nil}

@@ -21,7 +21,7 @@ use Rattle.trace_lines.specs.Lines.{lineOf, Taken, Means}
 use Rattle.trace_lines.specs.declared.Line.{Line}
 use Rattle.trace_lines.specs.declared.Line.the-variants.{Device, Event, Unreadable}
 use Rattle.trace_lines.proofs.Laws.{line-means}
-use Rattle.text_answers.specs.Answers.{shownLine}
+use Rattle.text_answers.specs.Answers.{answerLine, shownText, shownLine}
 use Rattle.trace_session.specs.Tracing.{Session, traced}
 use Rattle.trace_session.specs.Tracing.Session.{NoDevice, With}
 use Rattle.trace_logs.specs.Logs.{header, linesOf, answersFrom, answersOf}
@@ -29,7 +29,7 @@ use Rattle.trace_runs.specs.LogRuns.{seenLines, SayEvents, Answered, All
 
 -- ---- a log and a run
 events-seen : (s : State) (lines : List (List ℕ)) (es : List Asked) → SayEvents lines es → answersFrom (With s) lines ≡ seenLines (seenFrom part24 s es)
-unfolding answersFrom seenLines seenFrom traced shownLine
+unfolding answersFrom seenLines seenFrom traced shownLine shownText answerLine
 events-seen s [] [] says = refl
 events-seen s [] (e ∷ es) says = absurd says
 events-seen s (l ∷ lines) [] says = absurd says
@@ -40,7 +40,7 @@ events-seen s (l ∷ lines) (e ∷ es) says =
 -- a log whose first line makes a device, and whose other lines are events, is answered by the header and the lines of the run from that power-on
 pub log-run : (log first : List ℕ) (lines : List (List ℕ)) (choice levels : ℕ) (es : List Asked) → linesOf [] log ≡ first ∷ lines → lineOf first ≡ Device choice levels → SayEvents lines es
     → answersOf log ≡ header ++ seenLines (run part24 choice levels es)
-unfolding answersOf answersFrom seenLines traced shownLine
+unfolding answersOf answersFrom seenLines traced shownLine shownText answerLine
 log-run log first lines choice levels es all made says =
     ap (λ (x : List (List ℕ)). header ++ answersFrom NoDevice x) all
     ∙ ap (λ (x : Line). header ++ (traced NoDevice x .line ++ answersFrom (traced NoDevice x .after) lines)) made

@@ -1,6 +1,6 @@
--- What the code's cases say of a line. Assumes nothing.
+-- Each of the code's cases says what `traced` gives for its line. Assumes nothing.
 use mathlib.Core.Path.{_≡_, refl, ap, _∙_}
-use mathlib.Core.Bool.{Bool, false, cond}
+use mathlib.Core.Bool.{Bool, cond}
 use mathlib.Core.List.{List}
 use Prim.Native.Nat.{ℕ, _≤_}
 use borrow.Author.Tests.{eq-eqb, ne-eqb}
@@ -10,7 +10,7 @@ use Rattle.bits.proofs.Decide.{clash}
 use Rattle.map.specs.Map.{part24}
 use Rattle.device_rules.specs.Device.{Outcome, out}
 use Rattle.device_rules.specs.declared.Answer.{Answer}
-use Rattle.device_rules.specs.declared.Answer.the-variants.{Nothing, Refused}
+use Rattle.device_rules.specs.declared.Answer.the-variants.{Nothing}
 use Rattle.device_rules.specs.Refusals.{stepped}
 use Rattle.device_rules.specs.PowerOn.{powerOn}
 use Rattle.words_bus.specs.Packed.{stateIn, Packed}
@@ -19,8 +19,8 @@ use Rattle.text.proofs.Laws.{wrote-as}
 use Rattle.trace_lines.specs.declared.Line.{Line}
 use Rattle.trace_lines.specs.declared.Line.the-variants.{Event, Unreadable, Device as MadeLine}
 use Rattle.trace_lines.specs.Lines.{lineOf}
-use Rattle.text_answers.specs.Answers.{answerLine, shownLine, refusedLine}
-use Rattle.text_answers.proofs.Laws.{line-short, told-short}
+use Rattle.text_answers.specs.Answers.{shownLine, refusedLine}
+use Rattle.text_answers.proofs.Laws.{refused-short, told-short}
 use Rattle.trace_session.specs.Tracing.Session.{NoDevice, With}
 use Rattle.trace_session.specs.Tracing.{Session, Traced, sessionOf, told, unreadable, traced, Kept, Says}
 
@@ -65,8 +65,8 @@ module _ (x : Session) (said : Line) (line : List ℕ) (read : said ≡ lineOf l
 
 -- no answer is longer than this
 pub traced-short : (x : Session) (l : Line) → length (traced x l .line) ≤ 20
-unfolding traced answerLine
-traced-short x Unreadable = line-short (Refused 7) false 0 0
+unfolding traced
+traced-short x Unreadable = refused-short 7
 traced-short x (MadeLine choice levels) = told-short (out Nothing (powerOn part24 choice levels))
-traced-short NoDevice (Event kind arg) = line-short (Refused 7) false 0 0
+traced-short NoDevice (Event kind arg) = refused-short 7
 traced-short (With s) (Event kind arg) = told-short (stepped part24 s kind arg)

@@ -1,3 +1,4 @@
+-- `probe_fields::byte_fits`: by the branch. Assumes nothing.
 use borrow.Author.Needs.{needs}
 use Rattle.probe_fields.proofs.byte_fits.Statement.{statement}
 use Rattle.probe_fields.proofs.byte_fits.Tie as tie

@@ -1,3 +1,4 @@
+-- `probe_fields::file_in`: at each turn the bytes stored and those left are all bytes of the line. Assumes nothing.
 use borrow.Author.Needs.{needs}
 use mathlib.Core.Path.{_≡_, refl, sym, _∙_}
 use Prim.Native.Nat.{_*_, _-_, _≤_}

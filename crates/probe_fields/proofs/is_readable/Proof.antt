@@ -1,3 +1,4 @@
+-- `probe_fields::is_readable`: at each turn the rest of the form and of the line decide as the whole did. Assumes nothing.
 use native.Mathlib.Omega.{arith}
 use borrow.Author.Needs.{needs}
 use borrow.Author.Tests.{not-true, not-false}

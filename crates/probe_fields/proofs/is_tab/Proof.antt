@@ -1,3 +1,4 @@
+-- `probe_fields::is_tab`: tried at each place (`tab-places`). Assumes nothing.
 use borrow.Author.Needs.{needs}
 use Rattle.probe_fields.proofs.Reading.{tab-places}
 use Rattle.probe_fields.proofs.is_tab.Statement.{statement}

@@ -1,3 +1,4 @@
+-- `probe_fields::number_at`: by the digits of the field; what is read is most or less. Assumes nothing.
 use borrow.Author.Needs.{needs}
 use Rattle.probe_fields.proofs.Reading.{value-none, value-some}
 use Rattle.probe_fields.proofs.number_at.Statement.{statement}

@@ -1,3 +1,4 @@
+-- `probe_fields::put_bytes`: at each turn the digits written and those left are all digits (`Spelling`). Assumes nothing.
 use native.Mathlib.Omega.{arith}
 use borrow.Author.Needs.{needs}
 use Prim.Native.Nat.{_-_}
@@ -18,7 +19,8 @@ loop-holds c = spelling-start
 loop-again : tie.Need-loop-again Inv-loop μ-loop
 loop-again c =
     let p = c .before .before in
-    let l = p .before .before .before .before .before .before in
+    let hex = p .before .before in
+    let l = hex .before .before .before .before in
     spelling-on (l .loop .inv) (search needs) (search needs) (p .put .ensures)
 
 returns : tie.Need-returns Inv-loop μ-loop

@@ -1,3 +1,4 @@
+-- `probe_fields::put_field`: a tab, and the digits behind it. Assumes nothing.
 use borrow.Author.Needs.{needs}
 use Rattle.text.proofs.Laws.{wrote-both}
 use Rattle.probe_fields.proofs.put_field.Statement.{statement}

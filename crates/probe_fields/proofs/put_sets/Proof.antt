@@ -1,3 +1,4 @@
+-- `probe_fields::put_sets`: four fields, one after the other. Assumes nothing.
 use borrow.Author.Needs.{needs}
 use Rattle.text.proofs.Laws.{wrote-as, wrote-both}
 use Rattle.probe_fields.proofs.Writing.{sets-text}

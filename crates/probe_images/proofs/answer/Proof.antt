@@ -1,3 +1,4 @@
+-- `probe_images::answer`: the bytes that are held say as much as the whole line (`held-answer`). Assumes nothing.
 use mathlib.Core.Path.{_≡_}
 use native.Mathlib.Omega.{arith}
 use borrow.Author.Needs.{needs}
@@ -15,7 +16,8 @@ part-answer-line-end c =
 returns : tie.Need-returns
 returns c =
     let p = c .before .before in
-    let s = p .before .before .before .before .before .before in
+    let held = p .before .before .before in
+    let s = held .before .before .before in
     (held-answer (s .args .line) (p .answer-line .ensures .0), p .answer-line .ensures .1)
 
 pub answer-spec : {M : Type 1} → statement M

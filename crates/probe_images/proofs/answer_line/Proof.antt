@@ -1,11 +1,10 @@
+-- `probe_images::answer_line`: refusal 7 where the line is not readable, else the step that it asks; a step that is not refused leaves an image that fits. Assumes nothing.
 use native.Mathlib.Omega.{arith}
 use borrow.Author.Needs.{needs}
 use borrow.Author.Tests.{not-true, not-false}
 use mathlib.Core.Path.{sym, _∙_}
-use mathlib.Core.Bool.{false}
-use Rattle.device_rules.specs.declared.Answer.the-variants.{Refused}
 use Rattle.text.proofs.Laws.{wrote-as}
-use Rattle.text_answers.proofs.Laws.{line-short}
+use Rattle.text_answers.proofs.Laws.{refused-line, refused-short}
 use Rattle.probe_fields.proofs.Reading.{readable-long}
 use Rattle.probe_images.proofs.Spoken.{unreadable-text, probed-text}
 use Rattle.probe_images.proofs.Answered.{step-fits}
@@ -15,10 +14,9 @@ use Rattle.probe_images.proofs.answer_line.Tie as tie
 returns : tie.Need-returns
 returns c =
     let p = c .before .before in
-    let t = p .before .before in (
-      wrote-as (unreadable-text _ (t .before .is-readable .ensures) (not-true _ (t .if1 .taken))) (p .put-line .ensures),
-      omega (arith, p .put-line .ensures .ends, line-short (Refused 7) false 0 0),
-    )
+    let t = p .before .before in
+    let w = wrote-as (refused-line 7 _ _ _) (p .put-line .ensures) in
+    (wrote-as (unreadable-text _ (t .before .is-readable .ensures) (not-true _ (t .if1 .taken))) w, omega (arith, w .ends, refused-short 7))
 
 step-in-requires : tie.Need-step-in-requires
 step-in-requires c κs = readable-long _ (sym (c .before .is-readable .ensures) ∙ not-false _ (c .if1 .left))

@@ -1,3 +1,4 @@
+-- `probe_images::device_in`: each field is read at its place (`image-is`). Assumes nothing.
 use borrow.Author.Needs.{needs}
 use Rattle.probe_images.proofs.Spoken.{image-is}
 use Rattle.probe_images.proofs.device_in.Statement.{statement}

@@ -1,3 +1,4 @@
+-- `probe_images::grow`: of the bytes so far and these the first 360 are kept (`grown-holds`). Assumes nothing.
 use mathlib.Core.Path.{_≡_}
 use native.Mathlib.Omega.{arith}
 use borrow.Author.Needs.{needs}

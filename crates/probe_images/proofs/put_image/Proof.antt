@@ -1,3 +1,4 @@
+-- `probe_images::put_image`: a tab and the registers, the sets, the bus: one text after the other. Assumes nothing.
 use borrow.Author.Needs.{needs}
 use Rattle.text.proofs.Laws.{wrote-as, wrote-both}
 use Rattle.probe_images.proofs.Told.{image-text}

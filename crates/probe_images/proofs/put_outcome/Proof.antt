@@ -1,3 +1,4 @@
+-- `probe_images::put_outcome`: the answer, the image unless it is a refusal, and a newline: one text after the other. Assumes nothing.
 use borrow.Author.Needs.{needs}
 use Rattle.probe_images.proofs.Told.{line-answered, line-refused}
 use Rattle.probe_images.proofs.put_outcome.Statement.{statement}

@@ -1,3 +1,4 @@
+-- `probe_images::step_in`: the device, the kind and the argument are those that the line says. Assumes nothing.
 use borrow.Author.Needs.{needs}
 use Rattle.probe_images.proofs.Spoken.{step-is}
 use Rattle.probe_images.proofs.step_in.Statement.{statement}

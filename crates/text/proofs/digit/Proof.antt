@@ -1,3 +1,4 @@
+-- `text::digit`: each branch is a law that was tried at every byte. Assumes nothing.
 use borrow.Author.Needs.{needs}
 use Rattle.text.proofs.Laws.{digit-far, digit-none, digit-is}
 use Rattle.text.proofs.digit.Statement.{statement}

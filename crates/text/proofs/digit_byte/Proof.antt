@@ -1,3 +1,4 @@
+-- `text::digit_byte`: the branch decides the test in `digitByte`. Assumes nothing.
 use borrow.Author.Needs.{needs}
 use borrow.Author.Tests.{lt-ltb, le-ltb}
 use Rattle.text.proofs.digit_byte.Statement.{statement}

@@ -1,3 +1,4 @@
+-- `text::field`: each way out is one of the field's laws: another length, no digits, too large, read. Assumes nothing.
 use borrow.Author.Needs.{needs}
 use borrow.Author.Tests.{ne-eqb}
 use mathlib.Core.Path.{sym, _∙_}

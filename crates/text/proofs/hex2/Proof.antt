@@ -1,3 +1,4 @@
+-- `text::hex2`: the two digits of a byte are those of its pair. Assumes nothing.
 use borrow.Author.Needs.{needs}
 use mathlib.Core.List.{[], _∷_}
 use Rattle.text.specs.Text.{hexText}

@@ -1,3 +1,4 @@
+-- `text::hex6`: three pairs, each of one byte of the number (`byte-first`, `byte-second`). Assumes nothing.
 use borrow.Author.Needs.{needs}
 use mathlib.Core.Path.{_∙_}
 use mathlib.Core.List.{[], _∷_}

@@ -1,3 +1,4 @@
+-- `text::is`: another length is another word, and of the same length one begins with the other. Assumes nothing.
 use borrow.Author.Needs.{needs}
 use borrow.Author.Tests.{eq-eqb, ne-eqb}
 use Rattle.text.specs.Text.{isWord}

@@ -1,3 +1,4 @@
+-- `text::number`: at each turn the number so far and the rest of the digits say what all digits say; so many digits bound it. Assumes nothing.
 use native.Mathlib.Omega.{arith}
 use borrow.Author.Needs.{needs}
 use mathlib.Core.Path.{_≡_, refl, sym, _∙_}

@@ -1,3 +1,4 @@
+-- `text::pair`: both digits, and that the sums fit, were tried at every byte. Assumes nothing.
 use borrow.Author.Needs.{needs}
 use Rattle.text.proofs.Laws.{pair-first, pair-second, pair-fits}
 use Rattle.text.proofs.pair.Statement.{statement}

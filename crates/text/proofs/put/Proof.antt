@@ -1,3 +1,4 @@
+-- `text::put`: at each turn the stores done and those left are all stores of the text. Assumes nothing.
 use native.Mathlib.Omega.{arith}
 use borrow.Author.Needs.{needs}
 use mathlib.Core.Path.{_≡_, refl, ap, _∙_}

@@ -1,3 +1,4 @@
+-- `text::put_hex`: at each turn the digits stored from the right and those left are all digits. Assumes nothing.
 use native.Mathlib.Omega.{arith}
 use borrow.Author.Needs.{needs}
 use mathlib.Core.Path.{_≡_, refl, ap, sym, _∙_}

@@ -1,3 +1,4 @@
+-- `text::starts`: at each turn the rest of the word and of the text decide as the whole did. Assumes nothing.
 use native.Mathlib.Omega.{arith}
 use borrow.Author.Needs.{needs}
 use mathlib.Core.Path.{_≡_, refl, sym, _∙_}

@@ -1,3 +1,4 @@
+-- `text_answers::int_level`: by the branch. Assumes nothing.
 use borrow.Author.Needs.{needs}
 use Rattle.text_answers.proofs.int_level.Statement.{statement}
 use Rattle.text_answers.proofs.int_level.Tie as tie

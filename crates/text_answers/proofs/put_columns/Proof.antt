@@ -1,3 +1,4 @@
+-- `text_answers::put_columns`: the bytes of the array are the columns (`columns-are`). Assumes nothing.
 use borrow.Author.Needs.{needs}
 use Rattle.text.proofs.Laws.{wrote-as}
 use Rattle.text_answers.proofs.Laws.{columns-are}

@@ -1,3 +1,4 @@
+-- `text_answers::put_word`: each arm puts the word of its answer. Assumes nothing.
 use borrow.Author.Needs.{needs}
 use Rattle.text_answers.specs.Answers.{answerWord}
 use Rattle.text_answers.proofs.put_word.Statement.{statement}

@@ -1,7 +1,9 @@
+-- `trace_lines::device_of`: each way out is a law of `deviceOf`: too short, no tab, its two fields. Assumes nothing.
 use borrow.Author.Needs.{needs}
 use mathlib.Core.Path.{sym, _∙_}
 use borrow.Author.Tests.{not-true, not-false}
-use Rattle.trace_lines.proofs.Laws.{device-short, device-no-tab, device-fields, field-small}
+use Rattle.text.proofs.Laws.{field-small}
+use Rattle.trace_lines.proofs.Laws.{device-short, device-no-tab, device-fields}
 use Rattle.trace_lines.proofs.device_of.Statement.{statement}
 use Rattle.trace_lines.proofs.device_of.Tie as tie
 

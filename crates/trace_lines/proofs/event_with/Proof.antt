@@ -1,3 +1,4 @@
+-- `trace_lines::event_with`: by the digits. Assumes nothing.
 use borrow.Author.Needs.{needs}
 use mathlib.Core.Path.{sym, ap}
 use Rattle.trace_lines.specs.Lines.{eventWith}

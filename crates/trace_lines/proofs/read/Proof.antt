@@ -1,3 +1,4 @@
+-- `trace_lines::read`: each test decides one step of `lineOf`. Assumes nothing.
 use borrow.Author.Needs.{needs}
 use mathlib.Core.Path.{sym, _∙_}
 use native.Mathlib.Omega.{arith}
@@ -9,16 +10,43 @@ returns : tie.Need-returns
 returns c = line-long (c .before .before .args .line .now) (omega (arith, c .if1 .taken))
 
 returns-2 : tie.Need-returns-2
-returns-2 c = line-start (c .before .before .before .before .before .args .line .now) (omega (arith, c .before .before .before .if1 .left)) (sym (c .before .is .ensures) ∙ c .if2 .taken)
+returns-2 c =
+    let start = c .before in
+    let short = start .before .before in
+    line-start (short .before .before .args .line .now) (omega (arith, short .if1 .left)) (sym (start .is .ensures) ∙ c .if2 .taken)
 
 returns-3 : tie.Need-returns-3
-returns-3 c = line-stop (c .before .before .before .before .before .before .before .before .args .line .now) (omega (arith, c .before .before .before .before .before .before .if1 .left)) (sym (c .before .before .before .before .is .ensures) ∙ c .before .before .before .if2 .left) (sym (c .before .is2 .ensures) ∙ c .if3 .taken)
+returns-3 c =
+    let stop = c .before in
+    let no-start = stop .before .before in
+    let start = no-start .before in
+    let short = start .before .before in
+    line-stop (short .before .before .args .line .now) (omega (arith, short .if1 .left)) (sym (start .is .ensures) ∙ no-start .if2 .left)
+    (sym (stop .is2 .ensures) ∙ c .if3 .taken)
 
 returns-4 : tie.Need-returns-4
-returns-4 c = line-reset (c .before .before .before .before .before .before .before .before .before .before .before .args .line .now) (omega (arith, c .before .before .before .before .before .before .before .before .before .if1 .left)) (sym (c .before .before .before .before .before .before .before .is .ensures) ∙ c .before .before .before .before .before .before .if2 .left) (sym (c .before .before .before .before .is2 .ensures) ∙ c .before .before .before .if3 .left) (sym (c .before .is3 .ensures) ∙ c .if4 .taken)
+returns-4 c =
+    let reset = c .before in
+    let no-stop = reset .before .before in
+    let stop = no-stop .before in
+    let no-start = stop .before .before in
+    let start = no-start .before in
+    let short = start .before .before in
+    line-reset (short .before .before .args .line .now) (omega (arith, short .if1 .left)) (sym (start .is .ensures) ∙ no-start .if2 .left)
+    (sym (stop .is2 .ensures) ∙ no-stop .if3 .left) (sym (reset .is3 .ensures) ∙ c .if4 .taken)
 
 returns-5 : tie.Need-returns-5
-returns-5 c = c .read-fields .ensures ∙ line-fields (c .before .before .before .before .before .before .before .before .before .before .before .before .args .line .now) (omega (arith, c .before .before .before .before .before .before .before .before .before .before .if1 .left)) (sym (c .before .before .before .before .before .before .before .before .is .ensures) ∙ c .before .before .before .before .before .before .before .if2 .left) (sym (c .before .before .before .before .before .is2 .ensures) ∙ c .before .before .before .before .if3 .left) (sym (c .before .before .is3 .ensures) ∙ c .before .if4 .left)
+returns-5 c =
+    let no-reset = c .before in
+    let reset = no-reset .before in
+    let no-stop = reset .before .before in
+    let stop = no-stop .before in
+    let no-start = stop .before .before in
+    let start = no-start .before in
+    let short = start .before .before in
+    c .read-fields .ensures
+    ∙ line-fields (short .before .before .args .line .now) (omega (arith, short .if1 .left)) (sym (start .is .ensures) ∙ no-start .if2 .left)
+    (sym (stop .is2 .ensures) ∙ no-stop .if3 .left) (sym (reset .is3 .ensures) ∙ no-reset .if4 .left)
 
 pub read-spec : {M : Type 1} → statement M
 read-spec =

@@ -1,3 +1,4 @@
+-- `trace_lines::read_fields`: each test decides one step of `fieldsOf`; a line that begins with a word is as long as the word. Assumes nothing.
 use borrow.Author.Needs.{needs}
 use mathlib.Core.Path.{refl, sym, _∙_}
 use Rattle.trace_lines.specs.Lines.{fieldsOf, byte, fetch, pins, device}
@@ -16,13 +17,25 @@ event-at-requires-2 : tie.Need-event-at-requires-2
 event-at-requires-2 c κs = (starts-long fetch _ (sym (c .before .starts2 .ensures) ∙ c .if2 .taken), search needs)
 
 returns-2 : tie.Need-returns-2
-returns-2 c = c .event-at2 .ensures ∙ fields-fetch _ (sym (c .before .before .before .before .before .starts .ensures) ∙ c .before .before .before .before .if1 .left) (sym (c .before .before .starts2 .ensures) ∙ c .before .if2 .taken)
+returns-2 c =
+    let is-fetch = c .before in
+    let fetches = is-fetch .before in
+    let no-byte = fetches .before .before in
+    c .event-at2 .ensures ∙ fields-fetch _ (sym (no-byte .before .starts .ensures) ∙ no-byte .if1 .left) (sym (fetches .starts2 .ensures) ∙ is-fetch .if2 .taken)
 
 event-at-requires-3 : tie.Need-event-at-requires-3
 event-at-requires-3 c κs = (starts-long pins _ (sym (c .before .starts3 .ensures) ∙ c .if3 .taken), search needs)
 
 returns-3 : tie.Need-returns-3
-returns-3 c = c .event-at3 .ensures ∙ fields-pins _ (sym (c .before .before .before .before .before .before .before .before .starts .ensures) ∙ c .before .before .before .before .before .before .before .if1 .left) (sym (c .before .before .before .before .before .starts2 .ensures) ∙ c .before .before .before .before .if2 .left) (sym (c .before .before .starts3 .ensures) ∙ c .before .if3 .taken)
+returns-3 c =
+    let is-pins = c .before in
+    let levels = is-pins .before in
+    let no-fetch = levels .before .before in
+    let fetches = no-fetch .before in
+    let no-byte = fetches .before .before in
+    c .event-at3 .ensures
+    ∙ fields-pins _ (sym (no-byte .before .starts .ensures) ∙ no-byte .if1 .left) (sym (fetches .starts2 .ensures) ∙ no-fetch .if2 .left)
+    (sym (levels .starts3 .ensures) ∙ is-pins .if3 .taken)
 
 sub-device-of : tie.Need-sub-device-of
 sub-device-of c = let l = starts-long device _ (sym (c .before .starts4 .ensures) ∙ c .if4 .taken) in search needs
@@ -31,10 +44,28 @@ part-device-of-start : tie.Need-part-device-of-start
 part-device-of-start c = let l = starts-long device _ (sym (c .before .starts4 .ensures) ∙ c .if4 .taken) in search needs
 
 returns-4 : tie.Need-returns-4
-returns-4 c = c .device-of .ensures ∙ fields-device _ (sym (c .before .before .before .before .before .before .before .before .before .before .before .before .starts .ensures) ∙ c .before .before .before .before .before .before .before .before .before .before .before .if1 .left) (sym (c .before .before .before .before .before .before .before .before .before .starts2 .ensures) ∙ c .before .before .before .before .before .before .before .before .if2 .left) (sym (c .before .before .before .before .before .before .starts3 .ensures) ∙ c .before .before .before .before .before .if3 .left) (sym (c .before .before .before .starts4 .ensures) ∙ c .before .before .if4 .taken)
+returns-4 c =
+    let is-device = c .before .before in
+    let devices = is-device .before in
+    let no-pins = devices .before .before in
+    let levels = no-pins .before in
+    let no-fetch = levels .before .before in
+    let fetches = no-fetch .before in
+    let no-byte = fetches .before .before in
+    c .device-of .ensures
+    ∙ fields-device _ (sym (no-byte .before .starts .ensures) ∙ no-byte .if1 .left) (sym (fetches .starts2 .ensures) ∙ no-fetch .if2 .left)
+    (sym (levels .starts3 .ensures) ∙ no-pins .if3 .left) (sym (devices .starts4 .ensures) ∙ is-device .if4 .taken)
 
 returns-5 : tie.Need-returns-5
-returns-5 c = fields-none _ (sym (c .before .before .before .before .before .before .before .before .before .before .starts .ensures) ∙ c .before .before .before .before .before .before .before .before .before .if1 .left) (sym (c .before .before .before .before .before .before .before .starts2 .ensures) ∙ c .before .before .before .before .before .before .if2 .left) (sym (c .before .before .before .before .starts3 .ensures) ∙ c .before .before .before .if3 .left) (sym (c .before .starts4 .ensures) ∙ c .if4 .left)
+returns-5 c =
+    let devices = c .before in
+    let no-pins = devices .before .before in
+    let levels = no-pins .before in
+    let no-fetch = levels .before .before in
+    let fetches = no-fetch .before in
+    let no-byte = fetches .before .before in
+    fields-none _ (sym (no-byte .before .starts .ensures) ∙ no-byte .if1 .left) (sym (fetches .starts2 .ensures) ∙ no-fetch .if2 .left)
+    (sym (levels .starts3 .ensures) ∙ no-pins .if3 .left) (sym (devices .starts4 .ensures) ∙ c .if4 .left)
 
 pub read-fields-spec : {M : Type 1} → statement M
 read-fields-spec =

@@ -1,4 +1,4 @@
--- `trace_logs::end_line`: the line lies whole in the piece, or is joined. Assumes nothing.
+-- `trace_logs::end_line`: a line with nothing held is read where it lies, any other is joined. Assumes nothing.
 use borrow.Author.Needs.{needs}
 use borrow.Author.Tests.{eq-eqb, ne-eqb}
 use mathlib.Core.Path.{refl}

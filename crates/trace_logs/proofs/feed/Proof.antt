@@ -1,4 +1,4 @@
--- `trace_logs::feed`: each turn answers a line and goes on with the rest (`Onward`). Assumes nothing.
+-- `trace_logs::feed`: at each turn the answers written and those of the rest are all answers of the piece (`Onward`). Assumes nothing.
 use borrow.Author.Needs.{needs}
 use native.Mathlib.Omega.{arith}
 use lib.ListN.{length}

@@ -1,4 +1,4 @@
--- `trace_logs::finish`: a line that has begun is answered; there is none where nothing is held. Assumes nothing.
+-- `trace_logs::finish`: nothing where no byte is held, else the answer of the line that has begun. Assumes nothing.
 use borrow.Author.Needs.{needs}
 use Rattle.trace_logs.proofs.Feeding.{last-none, last-line}
 use Rattle.trace_logs.proofs.finish.Statement.{statement}

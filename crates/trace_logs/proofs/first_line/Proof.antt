@@ -1,4 +1,4 @@
--- `trace_logs::first_line`: up to the first newline, or all of a piece without one. Assumes nothing.
+-- `trace_logs::first_line`: with no newline all of the piece is carried on, else its first line is answered. Assumes nothing.
 use borrow.Author.Needs.{needs}
 use Rattle.trace_logs.proofs.Laws.{none-holds, line-holds}
 use Rattle.trace_logs.proofs.Feeding.{none-gives, line-gives}

@@ -1,4 +1,4 @@
--- `trace_logs::grow`: what is kept of the line (`kept-most`). Assumes nothing.
+-- `trace_logs::grow`: of the bytes so far and these the first 33 are kept (`kept-most`). Assumes nothing.
 use borrow.Author.Needs.{needs}
 use mathlib.Core.Path.{_≡_, ap, _∙_}
 use mathlib.Core.List.{List}

@@ -1,4 +1,4 @@
--- `trace_logs::joined_line`: the held bytes with the part are the line. Assumes nothing.
+-- `trace_logs::joined_line`: the bytes that are held say as much as the joined line (`line-joined`). Assumes nothing.
 use borrow.Author.Needs.{needs}
 use Rattle.trace_session.proofs.Laws.{says-as}
 use Rattle.trace_logs.proofs.Feeding.{line-joined}
@@ -14,7 +14,8 @@ part-answer-line-end c =
 returns : tie.Need-returns
 returns c =
     let p = c .before .before in
-    let g = p .before .before .before .before .before .before in
+    let bytes = p .before .before .before in
+    let g = bytes .before .before .before in
     let x = g .before .before .before .before .args in
     (says-as (line-joined (x .words .now) (x .held .now) (x .len) (g .grow .result) _ (x .part .now) (g .grow .ensures .0 (x .words .now))) (p .answer-line .ensures), g .grow .ensures .1, g .grow .ensures .3)
 

@@ -1,4 +1,4 @@
--- `trace_logs::put_header`: the bytes of the header. Assumes nothing.
+-- `trace_logs::put_header`: the bytes of the text are the header. Assumes nothing.
 use borrow.Author.Needs.{needs}
 use Rattle.text.proofs.Laws.{wrote-length}
 use Rattle.trace_logs.specs.Logs.{header}

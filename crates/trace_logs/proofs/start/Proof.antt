@@ -1,4 +1,4 @@
--- `trace_logs::start`: words of no device. Assumes nothing.
+-- `trace_logs::start`: the part's word names no part, so there is no device. Assumes nothing.
 use borrow.Author.Needs.{needs}
 use mathlib.Core.Path.{refl}
 use mathlib.Core.Bool.{false}

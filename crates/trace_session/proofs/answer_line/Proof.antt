@@ -1,3 +1,4 @@
+-- `trace_session::answer_line`: each arm is what `traced` gives for that line, and a device line that was read is one of a device that can be made. Assumes nothing.
 use borrow.Author.Needs.{needs}
 use native.Mathlib.Omega.{arith}
 use mathlib.Core.Path.{sym, _∙_}

@@ -1,3 +1,4 @@
+-- `trace_session::event`: told where the words hold a device, refusal 7 where they hold none. Assumes nothing.
 use borrow.Author.Needs.{needs}
 use borrow.Author.Tests.{eq-eqb}
 use Rattle.trace_session.proofs.Laws.{says-as, told-said, refused-said, event-told, event-refused}

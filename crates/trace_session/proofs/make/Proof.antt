@@ -1,3 +1,4 @@
+-- `trace_session::make`: the words hold the device at power-on, and its line is told. Assumes nothing.
 use borrow.Author.Needs.{needs}
 use mathlib.Core.Path.{ap}
 use Rattle.device_rules.specs.Device.{State, out}

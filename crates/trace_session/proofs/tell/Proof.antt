@@ -1,3 +1,4 @@
+-- `trace_session::tell`: the views of the words are those of the state that they hold. Assumes nothing.
 use borrow.Author.Needs.{needs}
 use mathlib.Core.Path.{refl}
 use Rattle.text.proofs.Laws.{wrote-as}
