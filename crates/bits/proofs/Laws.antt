@@ -5,10 +5,10 @@ use Prim.Native.Nat.{ℕ, zero, suc, _+_, _-_, _*_, _/_, _%_, _^_, _≤_, _<_, m
 use native.Mathlib.Nat.{div-add-mod', mod-lt, pow-suc, div-one, zero-add, suc-add, add-zero, lt-of-le-of-lt}
 use native.Mathlib.Omega.{arith}
 use lib.Arith.{lt-one, digits-div, digits-mod}
-use lib.Bits.{bitAnd, bitOr, bitXor, differ, and-le-l, and-le-r, or-add-and, or-lt, xor-lt, and-step, or-step, xor-step, block-half, block-odd}
+use lib.Bits.{bitAnd, bitOr, bitXor, differ, and-le-l, or-lt, xor-lt, and-step, or-step, xor-step, block-half, block-odd}
 use lib.Pow.{pow-pos, ones-lt, split, shr-shr, high}
-use borrow.Author.Tests.{ne-eqb, lt-ltb, le-ltb, ltb-true, ltb-false}
-use lib.Dec.{eqb, ltb}
+use borrow.Author.Tests.{ne-eqb}
+use lib.Dec.{eqb}
 use native.Mathlib.Numerals.{one-add}
 use Rattle.bits.specs.Bits.{val, pos, differs, bit, tabulate, some, without}
 use Rattle.bits.proofs.Decide.{taut}
@@ -154,15 +154,6 @@ bit-ones w i h = sym (ap (λ (x : ℕ). bit x i) (ones w)) ∙ bit-tabulate w (�
 -- ---- bounds, in the form that `search` wants
 pub and-below : (w a b : ℕ) → a < 2 ^ w → bitAnd a b < 2 ^ w
 and-below w a b h = lt-of-le-of-lt (and-le-l a b) h
-
--- a union is a set of the w pins exactly if both are
-pub or-fits : (w a b : ℕ) → ltb (bitOr a b) (2 ^ w) ≡ (ltb a (2 ^ w) && ltb b (2 ^ w))
-or-fits w a b = go (ltb a (2 ^ w)) refl (ltb b (2 ^ w)) refl
-  where
-    go : (p : Bool) → ltb a (2 ^ w) ≡ p → (q : Bool) → ltb b (2 ^ w) ≡ q → ltb (bitOr a b) (2 ^ w) ≡ (p && q)
-    go true hp true hq = lt-ltb (bitOr a b) (2 ^ w) (or-lt w a b (ltb-true a (2 ^ w) hp) (ltb-true b (2 ^ w) hq))
-    go true hp false hq = le-ltb (bitOr a b) (2 ^ w) (omega (arith, ltb-false b (2 ^ w) hq, or-add-and a b, and-le-l a b))
-    go false hp q hq = le-ltb (bitOr a b) (2 ^ w) (omega (arith, ltb-false a (2 ^ w) hp, or-add-and a b, and-le-r a b))
 
 -- `simp pinwise t`: bit i of a word is a Boolean expression of bit i of its operands
 pub ruleset pinwise = (bit-and, bit-or, bit-xor)

@@ -1,3 +1,4 @@
+-- `plan::answer_piece`: each turn takes a line and its newline off the piece. Assumes nothing.
 use borrow.Author.Needs.{needs}
 use Prim.Native.Nat.{_≤_}
 use lib.ListN.{length}

@@ -1,3 +1,4 @@
+-- `plan::explain`: the pins are looked at one by one. Assumes nothing.
 use borrow.Author.Needs.{needs}
 use Prim.Native.Nat.{_-_, _≤_}
 use Rattle.plan.proofs.explain.Statement.{statement}

@@ -1,3 +1,4 @@
+-- `plan::from_input`: the reading goes on from piece to piece; it ends after as many turns as a number has. Assumes nothing.
 use borrow.Author.Needs.{needs}
 use mathlib.Core.Path.{_≡_}
 use lib.ListN.{length}

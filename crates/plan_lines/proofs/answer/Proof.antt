@@ -1,3 +1,4 @@
+-- `plan_lines::answer`: refused by the line, or as the planner answers (`Answering`). Assumes nothing.
 use native.Mathlib.Omega.{arith}
 use borrow.Author.Needs.{needs}
 use mathlib.Core.Path.{_≡_, refl}

@@ -1,3 +1,4 @@
+-- `plan_lines::begin`: nothing is read yet. Assumes nothing.
 use mathlib.Core.Path.{refl}
 use Rattle.plan_lines.specs.Asks.{takenAll}
 use Rattle.plan_lines.proofs.begin.Statement.{statement}

@@ -1,3 +1,4 @@
+-- `plan_lines::byte_taken`: an eleventh byte is counted and not kept. Assumes nothing.
 use borrow.Author.Needs.{needs}
 use borrow.Author.Tests.{lt-ltb, le-ltb}
 use Rattle.plan_lines.specs.Asks.{byteTaken}

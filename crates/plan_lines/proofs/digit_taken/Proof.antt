@@ -1,3 +1,4 @@
+-- `plan_lines::digit_taken`: the first digit of a byte is kept, the second makes it. Assumes nothing.
 use borrow.Author.Needs.{needs}
 use mathlib.Core.Path.{_∙_}
 use borrow.Author.Tests.{eq-eqb, ne-eqb}

@@ -1,3 +1,4 @@
+-- `plan_lines::grow`: byte by byte, what is read so far is what the bytes so far say. Assumes nothing.
 use borrow.Author.Needs.{needs}
 use native.Mathlib.Omega.{arith}
 use mathlib.Core.Path.{_≡_, refl, ap, sym, _∙_}

@@ -1,3 +1,4 @@
+-- `plan_lines::line_refusal`: each test is one of the definition's. Assumes nothing.
 use borrow.Author.Tests.{eq-eqb, ne-eqb}
 use Rattle.plan_lines.specs.Asks.{lineRefusal}
 use Rattle.plan_lines.proofs.line_refusal.Statement.{statement}

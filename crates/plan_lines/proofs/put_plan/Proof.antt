@@ -1,3 +1,4 @@
+-- `plan_lines::put_plan`: the word, the writes, the newline. Assumes nothing.
 use native.Mathlib.Omega.{arith}
 use borrow.Author.Needs.{needs}
 use Rattle.text.proofs.Laws.{wrote-both}

@@ -1,3 +1,4 @@
+-- `plan_lines::put_planned`: by the planner's two answers. Assumes nothing.
 use native.Mathlib.Omega.{arith}
 use borrow.Author.Needs.{needs}
 use mathlib.Core.Path.{ap, sym}

@@ -1,3 +1,4 @@
+-- `plan_lines::put_refusal`: the line of a refusal. Assumes nothing.
 use native.Mathlib.Omega.{arith}
 use borrow.Author.Needs.{needs}
 use Rattle.text_answers.specs.Answers.{answerLine, answerWord}

@@ -1,3 +1,4 @@
+-- `plan_lines::put_write`: a tab and two bytes as digits. Assumes nothing.
 use native.Mathlib.Omega.{arith}
 use borrow.Author.Needs.{needs}
 use Rattle.text.proofs.Laws.{wrote-as}

@@ -1,3 +1,4 @@
+-- `plan_lines::put_writes`: write by write, the text so far is that of the writes so far. Assumes nothing.
 use borrow.Author.Needs.{needs}
 use lib.ListN.{length}
 use Rattle.plan_lines.proofs.Writing.{Writing, writing-start, writing-on, writing-done}

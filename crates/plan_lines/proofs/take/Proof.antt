@@ -1,3 +1,4 @@
+-- `plan_lines::take`: a tab, a digit or neither, each as `taken` says. Assumes nothing.
 use borrow.Author.Needs.{needs}
 use mathlib.Core.Path.{ap, subst, _∙_}
 use Prim.Native.Nat.{ℕ, _<_, _≤_}

@@ -1,3 +1,4 @@
+-- `plan_lines::with_digit`: the digit goes to the field that the tabs name. Assumes nothing.
 use borrow.Author.Needs.{needs}
 use mathlib.Core.Path.{ap, _∙_}
 use borrow.Author.Tests.{eq-eqb, ne-eqb}
