@@ -18,6 +18,19 @@ pub struct Rest {
     pub choice: u8,
 }
 
+// Event kinds.
+pub const START: u32 = 0;
+
+pub const STOP: u32 = 1;
+
+pub const BYTE: u32 = 2;
+
+pub const FETCH: u32 = 3;
+
+pub const LEVELS: u32 = 4;
+
+pub const RESET: u32 = 5;
+
 // Refusals, by their numbers; 0 is none.
 pub const NONE: u8 = 0;
 

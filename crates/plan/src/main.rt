@@ -1,8 +1,10 @@
 // The service engineer's command: plan START GOAL, or lines START<tab>GOAL on standard input.
+use device_rules::UNREADABLE;
 use libc::STDERR_FILENO;
 use libc::STDOUT_FILENO;
 use plan_lines::ROOM;
 use plan_lines::Reading;
+use planner_promise::BAD_SETTING;
 
 fn say_refusal(number: u8) {
     let mut out = [0u8; ROOM];
@@ -12,13 +14,13 @@ fn say_refusal(number: u8) {
 
 // What was wrong with a start or a goal, for a person.
 fn explain_setting(number: u8) {
-    if number == 5 {
+    if number == BAD_SETTING {
         io::write_all(
             STDERR_FILENO,
             b"plan: a start and a goal are ten bytes each, 04 05 06 0c 0d 0e 5c 70 71 72, and the 5c byte is 07 or less\n",
         );
     }
-    if number == 7 {
+    if number == UNREADABLE {
         io::write_all(
             STDERR_FILENO,
             b"plan: give a start and a goal as pairs of lowercase hex digits, nothing else; on a line of standard input with one tab between them\n",

@@ -10,6 +10,25 @@ ghost use Rattle.probe_fields.specs.Fields.{lineForm, readable, numberAt
 ghost use mathlib.Core.List.{[], _∷_};
 use text::Digits;
 
+// Where each field of a line begins: the registers first, then a tab before each.
+pub const LEVEL_AT: usize = 257;
+
+pub const REFERENCE_AT: usize = 274;
+
+pub const HELD_AT: usize = 291;
+
+pub const EDGE_AT: usize = 308;
+
+pub const POINTER_AT: usize = 325;
+
+pub const BUS_AT: usize = 328;
+
+pub const CHOICE_AT: usize = 331;
+
+pub const KIND_AT: usize = 334;
+
+pub const ARGUMENT_AT: usize = 343;
+
 // Whether a tab stands at this place of a line.
 fn is_tab(i: usize) -> bool
     requires { ⌜ i < 359 ⌝ }
@@ -87,7 +106,7 @@ pub fn kind_in(line: &[u8]) -> u32
     requires { ⌜ length (now line) ≡ 359 ⌝ }
     ensures { λ r. ⌜ r ≡ numberIn (now (line .entry)) 8 ⌝ }
 {
-    number_at(line, 334, 8, 0xffff_ffff) as u32
+    number_at(line, KIND_AT, 8, 0xffff_ffff) as u32
 }
 
 // The registers.

@@ -29,17 +29,17 @@ pub fn device_in(line: &[u8]) -> Device
     ensures { λ d. ⌜ stateIn d ≡ imageIn (now (line .entry)) ⌝ }
 {
     let sets = Sets {
-        level: probe_fields::word_at(line, 257),
-        reference: probe_fields::word_at(line, 274),
-        held: probe_fields::word_at(line, 291),
-        edge: probe_fields::word_at(line, 308),
+        level: probe_fields::word_at(line, probe_fields::LEVEL_AT),
+        reference: probe_fields::word_at(line, probe_fields::REFERENCE_AT),
+        held: probe_fields::word_at(line, probe_fields::HELD_AT),
+        edge: probe_fields::word_at(line, probe_fields::EDGE_AT),
     };
     Device {
         file: probe_fields::file_in(line),
         sets,
-        pointer: probe_fields::byte_at(line, 325),
-        bus: probe_fields::byte_at(line, 328),
-        choice: probe_fields::byte_at(line, 331),
+        pointer: probe_fields::byte_at(line, probe_fields::POINTER_AT),
+        bus: probe_fields::byte_at(line, probe_fields::BUS_AT),
+        choice: probe_fields::byte_at(line, probe_fields::CHOICE_AT),
     }
 }
 
@@ -50,7 +50,7 @@ pub fn step_in(line: &[u8]) -> Stepped
 {
     let device = device_in(line);
     let kind = probe_fields::kind_in(line);
-    let arg = probe_fields::word_at(line, 343);
+    let arg = probe_fields::word_at(line, probe_fields::ARGUMENT_AT);
     device.step(kind, arg)
 }
 

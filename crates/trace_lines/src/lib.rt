@@ -5,7 +5,23 @@ ghost use Prim.Native.Nat.{_≤_};
 ghost use lib.ListN.{length, drop};
 ghost use Rattle.text.specs.Text.{fieldOf, Small};
 ghost use Rattle.trace_lines.specs.Lines.{eventWith, deviceWith, deviceOf, lineOf, fieldsOf};
+use device_rules::BYTE;
+use device_rules::FETCH;
+use device_rules::LEVELS;
+use device_rules::RESET;
+use device_rules::START;
+use device_rules::STOP;
+use map::PINS24;
 use text::Digits;
+
+// No readable line is longer.
+const LONGEST: usize = 32;
+
+// Pin levels are so many digits.
+const LEVEL_DIGITS: usize = 6;
+
+// The last address choice.
+const MOST_CHOICE: u64 = 3;
 
 // What a line says. Event kinds: 0 START, 1 STOP, 2 byte, 3 fetch, 4 levels, 5 hardware reset.
 pub enum Line {
@@ -51,8 +67,8 @@ pub fn device_of(s: &[u8]) -> Line
     if !text::starts(&s[1..], b"\t") {
         return Line::Unreadable;
     }
-    let choice = text::field(&s[0..1], 1, 3);
-    let levels = text::field(&s[2..], 6, 0xff_ffff);
+    let choice = text::field(&s[0..1], 1, MOST_CHOICE);
+    let levels = text::field(&s[2..], LEVEL_DIGITS, PINS24);
     device_with(choice, levels)
 }
 
@@ -69,13 +85,13 @@ fn read_fields(line: &[u8]) -> Line
     ensures { λ r. ⌜ r ≡ fieldsOf (now (line .entry)) ⌝ }
 {
     if text::starts(line, b"byte\t") {
-        return event_at(line, 2, 5, 2, 0xff);
+        return event_at(line, BYTE, 5, 2, 0xff);
     }
     if text::starts(line, b"fetch\t") {
-        return event_at(line, 3, 6, 1, 1);
+        return event_at(line, FETCH, 6, 1, 1);
     }
     if text::starts(line, b"pins\t") {
-        return event_at(line, 4, 5, 6, 0xff_ffff);
+        return event_at(line, LEVELS, 5, LEVEL_DIGITS, PINS24);
     }
     if text::starts(line, b"device\t") {
         return device_of(&line[7..]);
@@ -87,17 +103,23 @@ fn read_fields(line: &[u8]) -> Line
 pub fn read(line: &[u8]) -> Line
     ensures { λ r. ⌜ r ≡ lineOf (now (line .entry)) ⌝ }
 {
-    if 32 < line.len() {
+    if LONGEST < line.len() {
         return Line::Unreadable;
     }
     if text::is(line, b"start") {
-        return Line::Event { kind: 0, arg: 0 };
+        return Line::Event {
+            kind: START,
+            arg: 0,
+        };
     }
     if text::is(line, b"stop") {
-        return Line::Event { kind: 1, arg: 0 };
+        return Line::Event { kind: STOP, arg: 0 };
     }
     if text::is(line, b"reset") {
-        return Line::Event { kind: 5, arg: 0 };
+        return Line::Event {
+            kind: RESET,
+            arg: 0,
+        };
     }
     read_fields(line)
 }

@@ -73,7 +73,7 @@ dark-union w i (suc n) f =
 -- ---- the test
 module _ (c : ℕ) (w : List ℕ) (pins kinds enables counts : ℕ) (lim : Limits c pins kinds enables counts) where
   abbrev Spare : ℕ
-  Spare = bitOr (bitOr (bitOr (without (unionTo w 18) pins) (without (getD w 7 0) kinds)) (without (getD w 17 0) enables)) (without (getD w 18 0) counts)
+  Spare = bitOr (bitOr (bitOr (without (unionTo w 16) pins) (without (getD w 7 0) kinds)) (without (getD w 17 0) enables)) (without (getD w 18 0) counts)
 
   abbrev Odd : ℕ
   Odd = bitOr (bitOr (bitOr (bitOr (bitOr (bitOr (bitOr (getD w 21 0 / 2 ^ 7) (getD w 22 0 / 2 ^ 3)) (getD w 23 0 / 2 ^ 2)) (getD w 19 0)) (getD w 20 0)) (getD w 24 0)) (getD w 25 0)) (getD w 26 0)
@@ -84,13 +84,13 @@ module _ (c : ℕ) (w : List ℕ) (pins kinds enables counts : ℕ) (lim : Limit
   fit-of-spare : length w ≡ 28 → Spare ≡ 0 → Fit (partOf c) w
   fit-of-spare full e = record { full = full; clear = clear }
     where
-      a : (bitOr (bitOr (without (unionTo w 18) pins) (without (getD w 7 0) kinds)) (without (getD w 17 0) enables) ≡ 0) × (without (getD w 18 0) counts ≡ 0)
+      a : (bitOr (bitOr (without (unionTo w 16) pins) (without (getD w 7 0) kinds)) (without (getD w 17 0) enables) ≡ 0) × (without (getD w 18 0) counts ≡ 0)
       a = or-zero _ _ e
 
-      b : (bitOr (without (unionTo w 18) pins) (without (getD w 7 0) kinds) ≡ 0) × (without (getD w 17 0) enables ≡ 0)
+      b : (bitOr (without (unionTo w 16) pins) (without (getD w 7 0) kinds) ≡ 0) × (without (getD w 17 0) enables ≡ 0)
       b = or-zero _ _ (a .0)
 
-      d : (without (unionTo w 18) pins ≡ 0) × (without (getD w 7 0) kinds ≡ 0)
+      d : (without (unionTo w 16) pins ≡ 0) × (without (getD w 7 0) kinds ≡ 0)
       d = or-zero _ _ (b .0)
 
       clear : (s i : ℕ) → s < 19 → ltb i (wideOf (partOf c) s) ≡ false → bit (getD w s 0) i ≡ false
@@ -108,8 +108,8 @@ module _ (c : ℕ) (w : List ℕ) (pins kinds enables counts : ℕ) (lim : Limit
               rw e18 (without-zero (getD w 18 0) counts (a .1) i (mask-bit (wideOf (partOf c) 18) i (lim .counts-are) ∙ rw e18 at q))
           go false x false r false t =
               let l : s < 17 = omega (arith, eqb-false s 17 r, eqb-false s 18 t) in
-              union-dark w i 18
-              (without-zero (unionTo w 18) pins (d .0) i (mask-bit (partOf c .width) i (lim .pins-are) ∙ ap (ltb i) (sym (pin-word (partOf c) (sound c) s l x)) ∙ q))
+              union-dark w i 16
+              (without-zero (unionTo w 16) pins (d .0) i (mask-bit (partOf c .width) i (lim .pins-are) ∙ ap (ltb i) (sym (pin-word (partOf c) (sound c) s l x)) ∙ q))
               s (omega arith)
 
   spare-of-fit : Fit (partOf c) w → Spare ≡ 0
@@ -118,10 +118,10 @@ module _ (c : ℕ) (w : List ℕ) (pins kinds enables counts : ℕ) (lim : Limit
       one : (s m : ℕ) → s < 19 → m ≡ 2 ^ wideOf (partOf c) s - 1 → without (getD w s 0) m ≡ 0
       one s m h e = zero-without (getD w s 0) m (λ i q. fit .clear s i h (sym (mask-bit (wideOf (partOf c) s) i e) ∙ q))
 
-      any : without (unionTo w 18) pins ≡ 0
-      any = zero-without (unionTo w 18) pins (λ i q.
+      any : without (unionTo w 16) pins ≡ 0
+      any = zero-without (unionTo w 16) pins (λ i q.
           let past : partOf c .width ≤ i = ltb-false i (partOf c .width) (sym (mask-bit (partOf c .width) i (lim .pins-are)) ∙ q) in
-          dark-union w i 18 (λ t h.
+          dark-union w i 16 (λ t h.
           let l : t < 19 = omega arith in
           fit .clear t i l (le-ltb i (wideOf (partOf c) t) (omega (arith, past, ltb-false (partOf c .width) (wideOf (partOf c) t) (sound c .most t l))))))
 

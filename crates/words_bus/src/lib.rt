@@ -14,6 +14,12 @@ ghost use Rattle.words.specs.Words.{partOf};
 ghost use Rattle.words_rows.specs.Rows.{rowAt};
 ghost use Rattle.words_bus.specs.Packed.{stateIn, answerAt, unionTo, resetWords, Packed, Standing, Leaves, Steps, Bounded, Limits};
 use device_rules::Answer;
+use device_rules::BYTE;
+use device_rules::FETCH;
+use device_rules::LEVELS;
+use device_rules::RESET;
+use device_rules::START;
+use device_rules::STOP;
 use map::DEBOUNCE_COUNT24;
 use map::DEBOUNCE_COUNT34;
 use map::DEBOUNCED24;
@@ -52,19 +58,6 @@ const CALL: u64 = 5;
 const ARMED: u64 = 6;
 
 const DEAF: u64 = 7;
-
-// Event kinds.
-const START: u32 = 0;
-
-const STOP: u32 = 1;
-
-const BYTE: u32 = 2;
-
-const FETCH: u32 = 3;
-
-const LEVELS: u32 = 4;
-
-const RESET: u32 = 5;
 
 // Answers as one number each, which is handed back in a register: an enum would be stored in parts and loaded whole.
 const NOTHING: u32 = 0;
@@ -244,18 +237,18 @@ fn stop(words: &mut [u64; 28], pins: u64) -> u32
     goes(words, IDLE, NOTHING)
 }
 
-// The bits that are set in some word of registers or pins.
+// The bits that are set in some word of pins: the port kind among them, debounce not, which have limits of their own.
 fn union(words: &[u64; 28]) -> u64
-    ensures { λ s. ⌜ s ≡ unionTo (now (words .entry)) 18 ⌝ }
+    ensures { λ s. ⌜ s ≡ unionTo (now (words .entry)) 16 ⌝ }
 {
     let low = words[0] | words[1] | words[2] | words[3] | words[4] | words[5] | words[6];
     let more = low | words[7] | words[8] | words[9] | words[10] | words[11] | words[12];
-    more | words[13] | words[14] | words[15] | words[16] | words[17] | words[18]
+    more | words[13] | words[14] | words[15] | words[16]
 }
 
 // What is set in the words of registers and pins, and does not exist.
 fn spare(words: &[u64; 28], pins: u64, kinds: u64, enables: u64, counts: u64) -> u64
-    ensures { λ s. ⌜ s ≡ bitOr (bitOr (bitOr (without (unionTo (now (words .entry)) 18) pins) (without (getD (now (words .entry)) 7 0) kinds))
+    ensures { λ s. ⌜ s ≡ bitOr (bitOr (bitOr (without (unionTo (now (words .entry)) 16) pins) (without (getD (now (words .entry)) 7 0) kinds))
         (without (getD (now (words .entry)) 17 0) enables)) (without (getD (now (words .entry)) 18 0) counts) ⌝ }
 {
     let any = union(words);
