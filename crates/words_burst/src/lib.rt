@@ -1,0 +1,155 @@
+// Many events in one call, on words that are lent: the image is tested once.
+ghost use mathlib.Core.Path.{_≡_};
+ghost use mathlib.Core.List.{[], _∷_};
+ghost use Prim.Native.Nat.{_+_, _*_, _≤_};
+ghost use lib.ListN.{length, set};
+ghost use Rattle.map.specs.Map.{part24};
+ghost use Rattle.device_rules.specs.Answers.{answerKind, answerByte};
+ghost use Rattle.words_bus.specs.Packed.{stateIn, Packed, Leaves};
+ghost use Rattle.words_burst.specs.Burst.{wordAt, sent, eventAt, sentOf, one, ran, twoOf, eight, Left, Bursts};
+use device_rules::Answer;
+use device_rules::BAD_ARGUMENT;
+use device_rules::BAD_KIND;
+
+// Refusals as a caller has them.
+const BROKEN: u32 = 3;
+
+const BAD_BURST: u32 = 8;
+
+const EVENT_BYTES: u64 = 12;
+
+const MOST_EVENTS: u64 = 512;
+
+// The last event kind.
+const LAST_KIND: u32 = 5;
+
+fn wide(b: u8) -> u32
+    ensures { λ r. ⌜ (r ≡ b) × (r ≤ 255) ⌝ }
+{
+    b as u32
+}
+
+// Four bytes from a place on, lowest first.
+fn word_at(bytes: &[u8], at: usize) -> u32
+    requires { ⌜ at + 4 ≤ length (now bytes) ⌝ }
+    ensures { λ r. ⌜ r ≡ wordAt (now (bytes .entry)) at ⌝ }
+{
+    let low = wide(bytes[at + 1]) * 256 + wide(bytes[at]);
+    let high = wide(bytes[at + 3]) * 256 + wide(bytes[at + 2]);
+    high * 65536 + low
+}
+
+// One event: its third word must be 0.
+fn one(words: &mut [u64; 28], kind: u32, arg: u32, third: u32) -> Answer
+    requires { ⌜ Packed 0 (now words) ⌝ }
+    ensures { λ a. ⌜ Leaves 0 (now (words .exit)) a (one part24 (stateIn part24 (now (words .entry))) (sent kind arg third)) ⌝ }
+{
+    if third == 0 {
+        return words_device::event(words, kind, arg as u64);
+    }
+    if LAST_KIND < kind {
+        return Answer::Refused(BAD_KIND);
+    }
+    Answer::Refused(BAD_ARGUMENT)
+}
+
+// The event of number i.
+fn take(words: &mut [u64; 28], events: &[u8], i: usize) -> Answer
+    requires { ⌜ Packed 0 (now words) × (12 * i + 12 ≤ length (now events)) ⌝ }
+    ensures { λ a. ⌜ Leaves 0 (now (words .exit)) a (one part24 (stateIn part24 (now (words .entry))) (eventAt (now (events .entry)) i)) ⌝ }
+{
+    let kind = word_at(events, 12 * i);
+    let arg = word_at(events, 12 * i + 4);
+    let third = word_at(events, 12 * i + 8);
+    one(words, kind, arg, third)
+}
+
+// An answer's kind and the byte read.
+fn two_of(answer: Answer) -> [u8; 2]
+    ensures { λ r. ⌜ r ≡ twoOf answer ⌝ }
+{
+    match answer {
+        Answer::Nothing => [0, 0],
+        Answer::Ack => [1, 0],
+        Answer::Nak => [2, 0],
+        Answer::Byte(b) => [3, b],
+        Answer::Refused(_) => [4, 0],
+    }
+}
+
+// The answer of event number i.
+fn put(answers: &mut [u8], i: usize, answer: Answer)
+    requires { ⌜ 2 * i + 2 ≤ length (now answers) ⌝ }
+    ensures { λ r. ⌜ now (answers .exit) ≡ set (set (now (answers .entry)) (2 * i) (answerKind answer)) (2 * i + 1) (answerByte answer) ⌝ }
+{
+    let two = two_of(answer);
+    answers[2 * i] = two[0];
+    answers[2 * i + 1] = two[1];
+}
+
+// The events in order, until one is refused.
+fn run(
+    words: &mut [u64; 28],
+    events: &[u8],
+    asked: usize,
+    answers: &mut [u8],
+    done: &mut [u64; 1],
+) -> u32
+    requires { ⌜ Packed 0 (now words) × (12 * asked ≤ length (now events)) × (2 * asked ≤ length (now answers)) ⌝ }
+    ensures { λ r. ⌜ Left (ran part24 (stateIn part24 (now (words .entry))) (sentOf (now (events .entry)) 0 asked)) r
+        (now (words .exit)) (now (answers .entry)) (now (answers .exit)) (now (done .exit)) ⌝ }
+{
+    let mut i = 0;
+    while i < asked {
+        let answer = take(words, events, i);
+        if let Answer::Refused(number) = answer {
+            *done = [i as u64];
+            return number as u32;
+        }
+        put(answers, i, answer);
+        i += 1;
+    }
+    *done = [i as u64];
+    0
+}
+
+// What refusal 8 tests.
+fn is_bad(bytes: u64, asked: u64, room: u64) -> bool
+    ensures { λ r. ⌜ r ≡ eight bytes asked room ⌝ }
+{
+    if bytes % EVENT_BYTES != 0 {
+        return true;
+    }
+    if bytes / EVENT_BYTES < asked {
+        return true;
+    }
+    if MOST_EVENTS < asked {
+        return true;
+    }
+    room < 2 * asked
+}
+
+// A burst of the 24-pin device.
+pub fn burst24(
+    words: &mut [u64; 28],
+    events: &[u8],
+    asked: u64,
+    answers: &mut [u8],
+    done: &mut [u64; 1],
+) -> u32
+    ensures { λ r. ⌜ Bursts (now (words .entry)) (now (events .entry)) asked r (now (words .exit))
+        (now (answers .entry)) (now (answers .exit)) (now (done .entry)) (now (done .exit)) ⌝ }
+{
+    if is_bad(events.len() as u64, asked, answers.len() as u64) {
+        return BAD_BURST;
+    }
+    if asked == 0 {
+        *done = [0];
+        return 0;
+    }
+    if !words_device::fits(&*words, 0) {
+        *done = [0];
+        return BROKEN;
+    }
+    run(words, events, asked as usize, answers, done)
+}
