@@ -1,5 +1,5 @@
 -- One event with its third word, on words. Assumes nothing.
-use mathlib.Core.Path.{_≡_, refl, sym, ap, subst, _∙_}
+use mathlib.Core.Path.{_≡_, refl, sym, ap, _∙_}
 use mathlib.Core.Bool.{Bool, true, false, cond}
 use mathlib.Core.List.{List}
 use Prim.Native.Nat.{ℕ}
@@ -13,7 +13,7 @@ use Rattle.device_rules.specs.declared.Answer.the-variants.{Refused}
 use Rattle.words_bus.specs.Packed.{stateIn, Packed, Leaves}
 use Rattle.words_bus.proofs.Judging.{image-fits, image}
 use Rattle.words_bus.proofs.Left.{left-same, by-rule}
-use Rattle.words_burst.specs.Burst.{Sent, sent, one}
+use Rattle.words_burst.specs.Burst.{Sent, one}
 
 -- by whether the third word is 0
 by-third : (p : Part) (s : State) (e : Sent) (t : Bool) → eqb (e .third) 0 ≡ t

@@ -1,3 +1,4 @@
 pub mod Calling
+pub mod Cuts
 pub mod Doing
 pub mod Running

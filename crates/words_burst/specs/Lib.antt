@@ -1,1 +1,2 @@
 pub mod Burst
+pub mod Cuts

@@ -1,6 +1,5 @@
 // Many events in one call, on words that are lent: the image is tested once.
 ghost use mathlib.Core.Path.{_≡_};
-ghost use mathlib.Core.List.{[], _∷_};
 ghost use Prim.Native.Nat.{_+_, _*_, _≤_};
 ghost use lib.ListN.{length, set};
 ghost use Rattle.map.specs.Map.{part24};
