@@ -6,6 +6,7 @@ ghost use lib.ListN.{length};
 ghost use Rattle.planner_promise.specs.Answer.{answerOf, Answers};
 ghost use Rattle.planner_promise.specs.Promise.{Promise};
 ghost use Rattle.host_words.specs.Host.{Told, Made, Seen, Shown, drivesOf, intOf, imageIn, FromImage, ToImage, plannedAs, countIn};
+ghost use Rattle.words_burst.specs.Burst.{Bursts};
 use map::PINS24;
 use pins::Sets;
 use words::BUS;
@@ -157,4 +158,19 @@ pub extern "C" fn ghixramel_plan(
 {
     let planned = planner::plan(start, goal, buffer);
     host_words::tell_plan(planned, writes)
+}
+
+// Many events, each of twelve bytes, with two bytes of answer each.
+#[no_mangle]
+pub extern "C" fn ghixramel_burst(
+    words: &mut [u64; 28],
+    events: &[u8],
+    asked: u64,
+    answers: &mut [u8],
+    done: &mut [u64; 1],
+) -> u32
+    ensures { λ r. ⌜ Bursts (now (words .entry)) (now (events .entry)) asked r (now (words .exit)) (now (answers .entry)) (now (answers .exit))
+        (now (done .entry)) (now (done .exit)) ⌝ }
+{
+    words_burst::burst24(words, events, asked, answers, done)
 }
