@@ -31,7 +31,7 @@ module _ (p : Part) where
     refused-here k = record { counted = ap length (sym none); told = ap twosOf (sym none); refused = refl; state = refl }
       where
         none : untilRefused (o .answer ∷ given) ≡ []
-        none = ap (λ (t : Bool). cond t [] (o .answer ∷ untilRefused given)) k
+        none = rw k
 
     answered-here : eqb (answerKind (o .answer)) 4 ≡ false → (r : Ran) → RunsAs p (o .after) es given r
         → RunsAs p s (e ∷ es) (o .answer ∷ given) (onto 1 (twoOf (o .answer)) r)
@@ -47,7 +47,7 @@ module _ (p : Part) where
         more = omega arith
 
         first : untilRefused (o .answer ∷ given) ≡ o .answer ∷ untilRefused given
-        first = ap (λ (t : Bool). cond t [] (o .answer ∷ untilRefused given)) k
+        first = rw k
 
   -- with no third word a burst is the run: step by step, up to the first refusal
   pub ran-steps : (s : State) (es : List Asked) → RunsAs p s es (answers p s es) (ran p s (sentAs es))

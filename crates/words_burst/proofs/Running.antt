@@ -1,5 +1,5 @@
 -- The loop over the events: what is done so far, and then the rest, is the whole. Assumes nothing.
-use mathlib.Core.Path.{_≡_, refl, sym, ap, _∙_}
+use mathlib.Core.Path.{_≡_, refl, sym, ap, subst, _∙_}
 use mathlib.Core.Bool.{Bool, false, cond}
 use mathlib.Core.List.{List, [], _∷_, _++_, append-assoc, append-nil}
 use mathlib.Core.Logic.{⊎-elim}
@@ -18,7 +18,7 @@ use Rattle.device_rules.proofs.Answer.{the-type}
 use Rattle.device_rules.specs.declared.Answer.{Answer}
 use Rattle.device_rules.specs.declared.Answer.the-variants.{Nothing, Ack, Nak, Byte, Refused}
 use Rattle.words_bus.specs.Packed.{stateIn, Packed, Leaves}
-use Rattle.words_burst.specs.Burst.{Sent, eventAt, sentOf, one, Ran, ended, onto, twoOf, ran, Left}
+use Rattle.words_burst.specs.Burst.{Sent, eventAt, sentOf, one, Ran, ended, onto, twoOf, afterOne, ran, Left}
 use Rattle.words_burst.proofs.Doing.{refused-same}
 
 -- an answer of one of the first four kinds is no refusal
@@ -31,18 +31,15 @@ answered (Refused n) k = absurd (⊎-elim (λ e. omega arith) (⊎-elim (λ e. o
 
 -- ---- one event of a run
 module _ (p : Part) (s : State) (e : Sent) (es : List Sent) where
-  by-outcome : Outcome → Ran
-  by-outcome o =
-      cond (eqb (answerKind (o .answer)) 4) (ended (refusalNumber (o .answer)) s) (onto 1 (twoOf (o .answer)) (ran p (o .after) es))
+  by-outcome : {o : Outcome} → o ≡ one p s e → ran p s (e ∷ es) ≡ afterOne s o (λ s. ran p s es)
+  unfolding ran
+  by-outcome h = ap (λ (o : Outcome). afterOne s o (λ s. ran p s es)) (sym h)
 
   pub ran-on : {a : Answer} {s' : State} → out a s' ≡ one p s e → eqb (answerKind a) 4 ≡ false → ran p s (e ∷ es) ≡ onto 1 (twoOf a) (ran p s' es)
-  unfolding ran by-outcome
-  ran-on {a} {s'} h k =
-      ap by-outcome (sym h) ∙ ap (λ (t : Bool). cond t (ended (refusalNumber a) s) (onto 1 (twoOf a) (ran p s' es))) k
+  ran-on h k = by-outcome h ∙ rw k
 
   pub ran-stop : {n : ℕ} {s' : State} → out (Refused n) s' ≡ one p s e → ran p s (e ∷ es) ≡ ended n s
-  unfolding ran by-outcome
-  ran-stop h = ap by-outcome (sym h)
+  ran-stop h = by-outcome h
 
 -- what was done before goes in front
 pub onto-onto : (m n : ℕ) (t u : List ℕ) (r : Ran) → onto m t (onto n u r) ≡ onto (m + n) (t ++ u) r
@@ -166,9 +163,14 @@ module _ (w₀ bytes : List ℕ) (asked : ℕ) (answers₀ : List ℕ) where
         (l .packed) (refused-same w (d .packed) (eventAt bytes i) l)
 
     -- none was
-    pub finish : asked ≤ i → Left whole 0 w answers₀ answers (i ∷ [])
+    pub finish : asked ≤ i → Left whole 0 w answers₀ answers (asked ∷ [])
     unfolding ran sentOf
-    finish h = ends (ap (λ (n : ℕ). ran part24 (stateIn part24 w) (sentOf bytes i n)) none) (d .packed) refl
+    finish h =
+        subst (λ (n : ℕ). Left whole 0 w answers₀ answers (n ∷ [])) last
+        (ends (ap (λ (n : ℕ). ran part24 (stateIn part24 w) (sentOf bytes i n)) none) (d .packed) refl)
       where
         none : asked - i ≡ 0
         none = omega arith
+
+        last : i ≡ asked
+        last = omega (arith, d .below)

@@ -61,12 +61,14 @@ onto done told r = record { number = r .number; done = done + r .done; told = to
 abbrev pub twoOf : Answer → List ℕ
 twoOf a = answerKind a ∷ answerByte a ∷ []
 
--- events in order; a refused one ends them, and the state is that before it
+-- one event, and then the rest: its answer is told; refused, it ends them, and the state is that before it
+abbrev pub afterOne : State → Outcome → (rest : State → Ran) → Ran
+afterOne s o rest = cond (eqb (answerKind (o .answer)) 4) (ended (refusalNumber (o .answer)) s) (onto 1 (twoOf (o .answer)) (rest (o .after)))
+
+-- events in order
 unfoldable pub ran : Part → State → List Sent → Ran
 ran p s [] = ended 0 s
-ran p s (e ∷ es) =
-    cond (eqb (answerKind (one p s e .answer)) 4) (ended (refusalNumber (one p s e .answer)) s)
-    (onto 1 (twoOf (one p s e .answer)) (ran p (one p s e .after) es))
+ran p s (e ∷ es) = afterOne s (one p s e) (λ s. ran p s es)
 
 -- ---- the call
 -- refusal 8: bytes that are no whole events; more asked than the bytes have, or more than 512; too little room for the answers

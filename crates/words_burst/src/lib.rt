@@ -108,7 +108,7 @@ fn run(
         put(answers, i, answer);
         i += 1;
     }
-    *done = [i as u64];
+    *done = [asked as u64];
     0
 }
 

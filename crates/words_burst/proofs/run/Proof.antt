@@ -25,7 +25,7 @@ returns c =
     let l = took .before .before .before in
     let a = l .before .before .before .args in
     stop (a .words .now) (a .events .now) (a .asked) (a .answers .now) (l .before .before .before .pre .2) (l .loop .words) (l .loop .answers) (l .loop .i) (l .loop .inv)
-    (took .before .before .loop-test .taken) (rw (known .answer .given .1) at (took .take .ensures))
+    (omega arith) (rw (known .answer .given .1) at (took .take .ensures))
 
 loop-again : tie.Need-loop-again Inv-loop μ-loop
 loop-again c =
@@ -36,7 +36,7 @@ loop-again c =
     let a = l .before .before .before .args in
     rw (putted .put .ensures)
     (turn (a .words .now) (a .events .now) (a .asked) (a .answers .now) (l .before .before .before .pre .2) (l .loop .words) (l .loop .answers) (l .loop .i) (l .loop .inv)
-    (took .before .before .loop-test .taken) (took .take .ensures) (answered (took .take .result) (m .match .keys2)))
+    (omega arith) (took .take .ensures) (answered (took .take .result) (m .match .keys2)))
 
 returns-2 : tie.Need-returns-2 Inv-loop μ-loop
 returns-2 c =
