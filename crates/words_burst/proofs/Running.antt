@@ -1,6 +1,6 @@
 -- The loop over the events: what is done so far, and then the rest, is the whole. Assumes nothing.
 use mathlib.Core.Path.{_≡_, refl, sym, ap, subst, _∙_}
-use mathlib.Core.Bool.{Bool, false, cond}
+use mathlib.Core.Bool.{false}
 use mathlib.Core.List.{List, [], _∷_, _++_, append-assoc, append-nil}
 use mathlib.Core.Logic.{⊎-elim}
 use Prim.Native.Nat.{ℕ, suc, _+_, _*_, _-_, _≤_, _<_}
@@ -13,7 +13,7 @@ use lib.ListN.{length, set, take, drop, length-set, take-append-drop}
 use lib.Seq.{take-suc-set, drop-set-lt, drop-drop, length-take-le}
 use Rattle.map.specs.Map.{Part, part24}
 use Rattle.device_rules.specs.Device.{State, Outcome, out}
-use Rattle.device_rules.specs.Answers.{answerKind, answerByte, refusalNumber}
+use Rattle.device_rules.specs.Answers.{answerKind, answerByte}
 use Rattle.device_rules.proofs.Answer.{the-type}
 use Rattle.device_rules.specs.declared.Answer.{Answer}
 use Rattle.device_rules.specs.declared.Answer.the-variants.{Nothing, Ack, Nak, Byte, Refused}
