@@ -1,7 +1,8 @@
 /* ghixramel: the PCAL6524 in software, and the planner of quiet register writes. Link with libghixramel.a.
  *
- * Every function gives 0, or the number of its refusal; refused, it changes nothing that it was lent. No call needs
- * a check first. Nothing is allocated and nothing is kept between calls: the state lies in the caller's memory.
+ * Every function gives 0, or the number of its refusal; refused, it changes nothing that it was lent, with one
+ * exception: a burst keeps what it did before the event that it refuses. No call needs a check first. Nothing is
+ * allocated and nothing is kept between calls: the state lies in the caller's memory.
  *
  * Memory that is lent is initialised, that for results too: a reference in the proved code is to initialised memory.
  * What is lent to one call must not overlap, nor be NULL.
@@ -58,11 +59,12 @@ GHIXRAMEL_ASSERT(image_size, sizeof(struct ghixramel_image) == 184);
 enum {
     GHIXRAMEL_DONE = 0,
     GHIXRAMEL_BAD_KIND = 1,     /* event kind above 5 */
-    GHIXRAMEL_BAD_ARGUMENT = 2, /* byte, acknowledge bit, levels, address choice or register number out of range */
+    GHIXRAMEL_BAD_ARGUMENT = 2, /* byte, acknowledge bit, levels, address choice, register number or a burst's third word out of range */
     GHIXRAMEL_BAD_IMAGE = 3,    /* broken: a number out of range, an entry where none is stored, or a state that no image makes */
     GHIXRAMEL_NO_QUIET_WAY = 4, /* no list of writes gets there without disturbing a pin */
     GHIXRAMEL_BAD_SETTING = 5,  /* start or goal not ten bytes, or its 5C over 7 */
-    GHIXRAMEL_BUFFER_SMALL = 6  /* plan buffer under GHIXRAMEL_PLAN_BYTES */
+    GHIXRAMEL_BUFFER_SMALL = 6, /* plan buffer under GHIXRAMEL_PLAN_BYTES */
+    GHIXRAMEL_BAD_BURST = 8     /* bytes that are no whole events, more asked than given or allowed, or no room for the answers */
 };
 
 /* Event kinds. */
@@ -103,6 +105,21 @@ uint32_t ghixramel_power_on(struct ghixramel *device, uint32_t choice, uint64_t 
 
 /* One event. answer[0] is the answer's kind, answer[1] the byte read, else 0. Refusals 3, 1, 2. */
 uint32_t ghixramel_step(struct ghixramel *device, uint32_t kind, uint64_t argument, uint8_t answer[2]);
+
+/* An event of a burst is GHIXRAMEL_EVENT_BYTES bytes: its kind, its argument and 0, four bytes each, the lowest first. */
+enum { GHIXRAMEL_EVENT_BYTES = 12, GHIXRAMEL_MOST_EVENTS = 512 };
+
+/* The first `asked` events in order, as that many calls of ghixramel_step; those after them are not looked at. done[0] is
+ * how many were done, and the answers, two bytes each as a step has them, go to the start of their buffer; bytes past
+ * them stay. Nothing needs to be aligned but the device and done.
+ *
+ * Refusal 8 comes first, and nothing at all is changed: event_bytes is no multiple of GHIXRAMEL_EVENT_BYTES, or `asked`
+ * is over the events given, or over GHIXRAMEL_MOST_EVENTS, or answer_bytes is under 2 * asked. Then event by event 3, 1,
+ * 2, as for a step; a third word other than 0 is 2 for every kind, START, STOP and reset too. A refused event ends the
+ * burst: its number is returned, done[0] counts the events before it, and state and answers are as after them. Where
+ * none is asked there is no refusal but 8, whatever the state. */
+uint32_t ghixramel_burst(struct ghixramel *device, const uint8_t *events, uint64_t event_bytes, uint64_t asked,
+                         uint8_t *answers, uint64_t answer_bytes, uint64_t done[1]);
 
 /* The pins driven low, drives[0], and driven high, drives[1]; the others are released. Refusal 3. */
 uint32_t ghixramel_drives(const struct ghixramel *device, uint64_t drives[2]);

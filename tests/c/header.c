@@ -1,8 +1,9 @@
 /* The header as C99, C11 and C++ take it; linked, so that its names are the library's in each of them. */
 #include <ghixramel.h>
 
-/* By its type, so that a length of 32 bits on a processor of 32 bits stops the compiler. */
+/* By their types, so that a length of 32 bits on a processor of 32 bits stops the compiler. */
 static uint32_t (*const plan)(const uint8_t *, uint64_t, const uint8_t *, uint64_t, uint8_t *, uint64_t, uint64_t *) = ghixramel_plan;
+static uint32_t (*const burst)(struct ghixramel *, const uint8_t *, uint64_t, uint64_t, uint8_t *, uint64_t, uint64_t *) = ghixramel_burst;
 
 static int views(const struct ghixramel *device)
 {
@@ -10,6 +11,18 @@ static int views(const struct ghixramel *device)
     uint8_t asserted[1] = {0}, shown[1] = {0};
     return ghixramel_drives(device, drives) == GHIXRAMEL_DONE && ghixramel_int(device, asserted) == GHIXRAMEL_DONE &&
            ghixramel_show(device, 0x03, shown) == GHIXRAMEL_BAD_ARGUMENT;
+}
+
+static int done_in_a_burst(struct ghixramel *device)
+{
+    uint8_t events[2 * GHIXRAMEL_EVENT_BYTES] = {GHIXRAMEL_START, 0, 0, 0, 0, 0, 0, 0, 0, 0, 0, 0, GHIXRAMEL_BYTE, 0, 0, 0, 0x46};
+    uint8_t answers[2 * 2] = {0};
+    uint64_t done[1] = {0};
+    if (burst(device, events, sizeof events, 2, answers, sizeof answers, done) != GHIXRAMEL_DONE || done[0] != 2)
+        return 0;
+    if (answers[0] != GHIXRAMEL_NOTHING || answers[2] != GHIXRAMEL_ACK)
+        return 0;
+    return burst(device, events, sizeof events, GHIXRAMEL_MOST_EVENTS + 1, answers, sizeof answers, done) == GHIXRAMEL_BAD_BURST;
 }
 
 static int carried(struct ghixramel *device)
@@ -38,5 +51,5 @@ int main(void)
         return 1;
     if (ghixramel_step(&device, GHIXRAMEL_START, 0, answer) != GHIXRAMEL_DONE || answer[0] != GHIXRAMEL_NOTHING)
         return 1;
-    return !(views(&device) && carried(&device) && planned());
+    return !(views(&device) && done_in_a_burst(&device) && carried(&device) && planned());
 }
