@@ -27,6 +27,7 @@ static void want_broken(const char *topic, uint64_t detail, const struct ghixram
     want("refusal of show of a reserved number", GHIXRAMEL_BAD_IMAGE, show_refusal(device, 0x03));
     want("refusal of show of a number too large", GHIXRAMEL_BAD_IMAGE, show_refusal(device, 0x100));
     want("refusal of to_image", GHIXRAMEL_BAD_IMAGE, to_image_refusal(device));
+    want("refusal of a burst", GHIXRAMEL_BAD_IMAGE, burst_refusal(device, GHIXRAMEL_START, 0, 0));
 }
 
 static void want_whole(const char *topic, uint64_t detail, const struct ghixramel *device)
@@ -38,6 +39,7 @@ static void want_whole(const char *topic, uint64_t detail, const struct ghixrame
     want("refusal of INT", GHIXRAMEL_DONE, int_refusal(device));
     want("refusal of show", GHIXRAMEL_DONE, show_refusal(device, 0x00));
     want("refusal of to_image", GHIXRAMEL_DONE, to_image_refusal(device));
+    want("refusal of a burst", GHIXRAMEL_DONE, burst_refusal(device, GHIXRAMEL_START, 0, 0));
 }
 
 /* Whatever the memory held: a device, or none. */

@@ -7,7 +7,7 @@
 
 /* An odd guard puts byte arrays at odd addresses, where a host may have them. */
 enum { GUARD = 17, FILL = 0xA5, MOST_STACK = 4096 };
-enum function { POWER_ON, STEP, DRIVES, INT, SHOW, FROM_IMAGE, TO_IMAGE, PLAN, FUNCTIONS };
+enum function { POWER_ON, STEP, DRIVES, INT, SHOW, FROM_IMAGE, TO_IMAGE, PLAN, BURST, FUNCTIONS };
 
 struct results {
     uint8_t answer[2];
@@ -22,6 +22,18 @@ struct results {
     uint8_t guard_4[GUARD];
     uint8_t buffer[MOST_LENT_BYTES];
 };
+
+/* What only a burst is lent. It is long, so no other call's check goes over it. */
+struct burst_lent {
+    uint64_t done[1];
+    uint8_t guard_0[GUARD];
+    uint8_t answers[MOST_ROOM_BYTES];
+    uint8_t guard_1[GUARD];
+    uint8_t events[MOST_EVENT_BYTES];
+    uint8_t guard_2[GUARD];
+};
+_Static_assert(offsetof(struct burst_lent, answers) % 2 == 1 && offsetof(struct burst_lent, events) % 2 == 1,
+               "a host owes a burst's bytes no alignment");
 
 /* All that can be lent. */
 struct lent {
@@ -44,6 +56,7 @@ struct lent {
     uint8_t guard_8[GUARD];
     struct results results;
     uint8_t guard_9[GUARD];
+    struct burst_lent burst;
 };
 _Static_assert(offsetof(struct lent, device) % 16 == 8 && offsetof(struct lent, elsewhere) % 16 == 0,
                "a host owes a state the alignment of its words, and no more");
@@ -53,6 +66,7 @@ struct numbers {
     uint32_t small;
     uint64_t large;
     uint64_t start_bytes, goal_bytes, buffer_bytes;
+    uint64_t event_bytes, asked, answer_bytes;
 };
 
 static _Alignas(16) struct lent lent;
@@ -60,6 +74,7 @@ static struct lent before, first, allowed;
 static struct ghixramel *at; /* the first call's device, or that elsewhere */
 static struct numbers numbers;
 static uint32_t refusal;
+static size_t lent_bytes; /* from the start of what is lent, and looked at */
 static size_t most_used[FUNCTIONS];
 
 static void power_on(void)
@@ -113,6 +128,12 @@ static void plan(void)
                              lent.results.writes);
 }
 
+static void burst(void)
+{
+    refusal = ghixramel_burst(at, lent.burst.events, numbers.event_bytes, numbers.asked, lent.burst.answers, numbers.answer_bytes,
+                              lent.burst.done);
+}
+
 /* What a call may have written is laid over the copy from before. */
 static void allow(const void *written, size_t bytes)
 {
@@ -139,6 +160,19 @@ static void allow_plan(void)
     allow(lent.results.buffer, fits ? 2 * (size_t)lent.results.writes[0] : 0);
 }
 
+/* So is a number of events done that was not asked, or that is the number asked in a burst that ended early. */
+static void allow_burst(void)
+{
+    uint64_t done = lent.burst.done[0];
+    int fits = refusal == GHIXRAMEL_DONE ? done == numbers.asked : done < numbers.asked;
+    want("a burst of all events asked, or fewer and a refusal", 1, (uint64_t)fits);
+    allow(lent.burst.done, sizeof lent.burst.done);
+    if (!fits || done == 0)
+        return;
+    allow(at, sizeof *at);
+    allow(lent.burst.answers, 2 * (size_t)done);
+}
+
 static void allow_results(enum function function)
 {
     switch (function) {
@@ -162,9 +196,18 @@ static void allow_results(enum function function)
     case TO_IMAGE:
         allow_image();
         break;
+    case BURST:
+        allow_burst();
+        break;
     default:
         allow_plan();
     }
+}
+
+/* A burst that ended early has its results; that it never began says 8. */
+static int has_results(enum function function)
+{
+    return refusal == GHIXRAMEL_DONE || (function == BURST && refusal != GHIXRAMEL_BAD_BURST);
 }
 
 static void watch_one(enum function function, struct ghixramel *device, void (*call)(void))
@@ -173,11 +216,11 @@ static void watch_one(enum function function, struct ghixramel *device, void (*c
     size_t used = stack_used(call);
     if (used > most_used[function])
         most_used[function] = used;
-    memcpy(&allowed, &before, sizeof lent);
-    if (refusal == GHIXRAMEL_DONE)
+    memcpy(&allowed, &before, lent_bytes);
+    if (has_results(function))
         allow_results(function);
-    want(refusal == GHIXRAMEL_DONE ? "memory beside the results changed" : "memory changed by a refused call", 0,
-         memcmp(&allowed, &lent, sizeof lent) != 0);
+    want(has_results(function) ? "memory beside the results changed" : "memory changed by a refused call", 0,
+         memcmp(&allowed, &lent, lent_bytes) != 0);
 }
 
 static void same_as_first(const char *what, const void *in_first, const void *now, size_t bytes)
@@ -187,11 +230,11 @@ static void same_as_first(const char *what, const void *in_first, const void *no
 
 static void watch(enum function function, void (*call)(void), void (*second_call)(void))
 {
-    memcpy(&before, &lent, sizeof lent);
+    memcpy(&before, &lent, lent_bytes);
     watch_one(function, &lent.device, call);
     uint32_t first_refusal = refusal;
-    memcpy(&first, &lent, sizeof lent);
-    memcpy(&lent, &before, sizeof lent);
+    memcpy(&first, &lent, lent_bytes);
+    memcpy(&lent, &before, lent_bytes);
     watch_one(function, &lent.elsewhere, second_call);
     want("refusal of a second call", first_refusal, refusal);
     same_as_first("state differs on a second call", &first.device, &lent.elsewhere, sizeof first.device);
@@ -200,11 +243,19 @@ static void watch(enum function function, void (*call)(void), void (*second_call
     same_as_first("bus numbers differ on a second call", first.bus,
                   (const uint8_t *)&lent.image + offsetof(struct ghixramel_image, pointer), sizeof first.bus);
     same_as_first("results differ on a second call", &first.results, &lent.results, sizeof first.results);
+    if (function == BURST)
+        same_as_first("what a burst was lent differs on a second call", &first.burst, &lent.burst, sizeof first.burst);
+}
+
+static void fill(size_t bytes)
+{
+    memset(&lent, FILL, bytes);
+    lent_bytes = bytes;
 }
 
 static void lend(const struct ghixramel *device, struct numbers with)
 {
-    memset(&lent, FILL, sizeof lent);
+    fill(offsetof(struct lent, burst));
     memcpy(&lent.device, device, sizeof lent.device);
     memcpy(&lent.elsewhere, device, sizeof lent.elsewhere);
     numbers = with;
@@ -311,7 +362,7 @@ struct ghixramel guarded_device(const struct ghixramel_image *image)
 uint32_t guarded_plan(const uint8_t *start, uint64_t start_bytes, const uint8_t *goal, uint64_t goal_bytes, uint8_t *buffer,
                       uint64_t buffer_bytes, uint64_t writes[1])
 {
-    memset(&lent, FILL, sizeof lent);
+    fill(offsetof(struct lent, burst));
     memcpy(lent.start, start, start_bytes);
     memcpy(lent.goal, goal, goal_bytes);
     numbers = (struct numbers){.start_bytes = start_bytes, .goal_bytes = goal_bytes, .buffer_bytes = buffer_bytes};
@@ -321,9 +372,25 @@ uint32_t guarded_plan(const uint8_t *start, uint64_t start_bytes, const uint8_t 
     return refusal;
 }
 
+uint32_t guarded_burst(struct ghixramel *device, const uint8_t *events, uint64_t event_bytes, uint64_t asked, uint8_t *answers,
+                       uint64_t answer_bytes, uint64_t done[1])
+{
+    lend(device, (struct numbers){.event_bytes = event_bytes, .asked = asked, .answer_bytes = answer_bytes});
+    memset(&lent.burst, FILL, sizeof lent.burst);
+    lent_bytes = sizeof lent;
+    memcpy(lent.burst.events, events, event_bytes);
+    memcpy(lent.burst.answers, answers, answer_bytes);
+    memcpy(lent.burst.done, done, sizeof lent.burst.done);
+    watch(BURST, burst, burst);
+    memcpy(device, &lent.elsewhere, sizeof lent.elsewhere);
+    memcpy(answers, lent.burst.answers, answer_bytes);
+    memcpy(done, lent.burst.done, sizeof lent.burst.done);
+    return refusal;
+}
+
 void check_stacks(void)
 {
-    static const char *const names[FUNCTIONS] = {"power_on", "step", "drives", "int", "show", "from_image", "to_image", "plan"};
+    static const char *const names[FUNCTIONS] = {"power_on", "step", "drives", "int", "show", "from_image", "to_image", "plan", "burst"};
     for (int i = 0; i < FUNCTIONS; i++) {
         about(names[i], most_used[i]);
         want("the call was measured and used less than 4096 bytes of stack", 1, most_used[i] > 0 && most_used[i] < MOST_STACK);

@@ -1,15 +1,15 @@
 /* The library's calls, each watched: made in memory with guard bytes around every array and on a stack of its own, and
  * once more from the same beginning, with the state elsewhere in memory and the image as the struct where it was arrays.
- * Checked each time: a refused call changed no byte, another only its results; both calls gave the same, so nothing was
- * kept in between and the place did not matter. An image that was taken comes out as the same bytes; one that was given
- * makes the same state again, byte for byte. */
+ * Checked each time: a refused call changed no byte, another only its results, and a burst that ended early only those of
+ * the events that it counts; both calls gave the same, so nothing was kept in between and the place did not matter. An
+ * image that was taken comes out as the same bytes; one that was given makes the same state again, byte for byte. */
 #ifndef GUARDED_H
 #define GUARDED_H
 
 #include <ghixramel.h>
 
-/* What is lent to the planner may be this long. */
-enum { MOST_LENT_BYTES = 64 };
+/* What is lent to the planner may be this long, and to a burst so many events and so much room for answers. */
+enum { MOST_LENT_BYTES = 64, MOST_EVENT_BYTES = 515 * GHIXRAMEL_EVENT_BYTES, MOST_ROOM_BYTES = 515 * 2 + 1 };
 
 uint32_t guarded_power_on(struct ghixramel *device, uint32_t choice, uint64_t levels);
 uint32_t guarded_step(struct ghixramel *device, uint32_t kind, uint64_t argument, uint8_t answer[2]);
@@ -18,6 +18,9 @@ uint32_t guarded_int(const struct ghixramel *device, uint8_t asserted[1]);
 uint32_t guarded_show(const struct ghixramel *device, uint32_t number, uint8_t shown[1]);
 uint32_t guarded_from_image(struct ghixramel *device, const struct ghixramel_image *image);
 uint32_t guarded_to_image(const struct ghixramel *device, struct ghixramel_image *image);
+
+uint32_t guarded_burst(struct ghixramel *device, const uint8_t *events, uint64_t event_bytes, uint64_t asked, uint8_t *answers,
+                       uint64_t answer_bytes, uint64_t done[1]);
 
 /* A device in the state of the image; of a broken image none, so that every call on it is refused with 3. */
 struct ghixramel guarded_device(const struct ghixramel_image *image);

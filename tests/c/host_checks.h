@@ -9,5 +9,6 @@ void check_broken(void);
 void check_carried(void);
 void check_shows(void);
 void check_plans(void);
+void check_bursts(void);
 
 #endif

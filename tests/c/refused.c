@@ -1,5 +1,6 @@
 #include "refused.h"
 
+#include "event_bytes.h"
 #include "guarded.h"
 
 #include <libc.h>
@@ -34,4 +35,13 @@ uint32_t to_image_refusal(const struct ghixramel *device)
     struct ghixramel_image image;
     memset(&image, 0x99, sizeof image);
     return guarded_to_image(device, &image);
+}
+
+uint32_t burst_refusal(const struct ghixramel *device, uint32_t kind, uint32_t argument, uint32_t rest)
+{
+    struct ghixramel stepped = *device;
+    uint8_t event[GHIXRAMEL_EVENT_BYTES], answer[2] = {0};
+    uint64_t done[1] = {0};
+    put_event(event, kind, argument, rest);
+    return guarded_burst(&stepped, event, sizeof event, 1, answer, sizeof answer, done);
 }

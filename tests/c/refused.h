@@ -12,4 +12,7 @@ uint32_t int_refusal(const struct ghixramel *device);
 uint32_t show_refusal(const struct ghixramel *device, uint32_t number);
 uint32_t to_image_refusal(const struct ghixramel *device);
 
+/* Of a burst of one event, `rest` its third word. */
+uint32_t burst_refusal(const struct ghixramel *device, uint32_t kind, uint32_t argument, uint32_t rest);
+
 #endif
