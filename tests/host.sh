@@ -1,6 +1,6 @@
 #!/usr/bin/env bash
 # The library as a C program calls it: the header in each language, its own checks (tests/c/host.c), then the independent model on seeded
-# images, logs, plans and views (SEED, IMAGES, LOGS, PLANS and VIEWS on request: IMAGES=100000 SEED=7 tests/host.sh).
+# images, logs, plans, views and bursts (SEED, IMAGES, LOGS, PLANS, VIEWS and BURSTS on request: IMAGES=100000 SEED=7 tests/host.sh).
 set -u
 cd "$(dirname "${BASH_SOURCE[0]}")/.." || exit 2
 . c/kit.sh
@@ -20,7 +20,7 @@ build() {
     local name watched="checks guarded stack"
     local host="host $watched images words master refused points refusals broken carried shows plans bursts"
     mkdir -p "$out" || return 1
-    for name in $host as_peer plan_lines view_lines; do
+    for name in $host as_peer plan_lines view_lines burst_lines; do
         compile_c "$out/$name.o" "tests/c/$name.c" || return 1
     done
     for name in mix peer peer_probe peer_trace; do
@@ -31,7 +31,8 @@ build() {
         link_c "$out/probe" $(objects peer_probe as_peer $watched) "$library" &&
         link_c "$out/trace" $(objects peer_trace as_peer $watched) "$library" &&
         link_c "$out/plan" $(objects plan_lines $watched) "$library" &&
-        link_c "$out/views" $(objects view_lines $watched) "$library"
+        link_c "$out/views" $(objects view_lines $watched) "$library" &&
+        link_c "$out/burst" $(objects burst_lines $watched) "$library"
 }
 
 # a layout other than the one that the header asserts, or a name that C++ has changed, stops here
@@ -62,4 +63,5 @@ judge probe "${IMAGES:-5000}"
 judge trace "${LOGS:-300}"
 judge plan "${PLANS:-500}"
 judge views "${VIEWS:-3000}"
+judge burst "${BURSTS:-2000}"
 exit $bad

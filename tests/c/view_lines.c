@@ -1,7 +1,7 @@
 /* Views of the library for lines of an image's eight fields and a register number: the byte that a fetch would show, INT, the pins
  * driven low and high, as the program trace answers; in the place of what was refused its refusal. So the model judges them. */
 #include "guarded.h"
-#include "image_text.h"
+#include "image_lines.h"
 #include "peer_text.h"
 
 enum { LINE_BYTES = 342, MOST_VIEWS_BYTES = 32 };
@@ -10,14 +10,6 @@ struct asked {
     struct ghixramel_image image;
     uint32_t number;
 };
-
-static const uint8_t *image_fields(const uint8_t *at, struct ghixramel_image *image)
-{
-    at = registers_field(at, image->registers);
-    for (int i = 0; i < 4; i++)
-        at = field(at, 16, &image->pins[i]);
-    return field(field(field(at, 2, &image->pointer), 2, &image->bus), 2, &image->choice);
-}
 
 /* The fields have fixed widths, so a line of the right length with a tab after each of eight fields has no room for more. */
 static int read_asked(const uint8_t *line, size_t length, struct asked *asked)

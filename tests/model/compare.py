@@ -1,4 +1,4 @@
-"""A program under test against the model: python3 compare.py trace|probe|plan|views COMMAND... [--seed N] [--count N]."""
+"""A program under test against the model: python3 compare.py trace|probe|plan|views|burst COMMAND... [--seed N] [--count N]."""
 
 import random
 import subprocess
@@ -6,13 +6,14 @@ import sys
 import tempfile
 import time
 
+import bursts
 import generate
 import probe
 import views
 from judge import judge
 from trace import run_log, split_lines
 
-COUNTS = {'trace': 1000, 'probe': 20000, 'plan': 3000, 'views': 3000}
+COUNTS = {'trace': 1000, 'probe': 20000, 'plan': 3000, 'views': 3000, 'burst': 3000}
 ALONE = 20
 LONG_LOGS, LONG_LINES = 5, 4000
 
@@ -109,6 +110,10 @@ def compare_views(command, rng, count):
     return compare_lines('view lines', [generate.view_line(rng) for _ in range(count)], views.run_lines, command)
 
 
+def compare_burst(command, rng, count):
+    return compare_lines('burst lines', [generate.burst_line(rng) for _ in range(count)], bursts.run_lines, command)
+
+
 def compare_plan(command, rng, count):
     """All starts and goals in one run; each answer is judged, none compared."""
     pairs = [generate.setting_pair(rng) for _ in range(count)]
@@ -144,7 +149,7 @@ def options(words):
 def main(words):
     command, seed, count = options(words[1:])
     compare = {'trace': compare_trace, 'probe': compare_probe, 'plan': compare_plan,
-               'views': compare_views}.get(words[0] if words else '')
+               'views': compare_views, 'burst': compare_burst}.get(words[0] if words else '')
     if not compare or not command:
         print(__doc__)
         return 2

@@ -34,6 +34,9 @@ GROUPS = (
     Group(0x76, 0x76, 'debounce count', 0x00, True),
 )
 
+# An event of a burst, and how many of them one call may be asked.
+EVENT_BYTES, MOST_EVENTS = 12, 512
+
 TEN = (0x04, 0x05, 0x06, 0x0C, 0x0D, 0x0E, 0x5C, 0x70, 0x71, 0x72)
 
 Image = namedtuple('Image', 'registers level reference held edge pointer bus choice')
@@ -183,6 +186,49 @@ class Device:
         else:
             self.reset()
         return '-'
+
+    # Bursts: many events in one call, three words each.
+
+    def burst(self, data, asked, room):
+        """(refusal, events done, answers of those done); (8, None, []) with nothing changed nor told."""
+        if self.burst_refused(len(data), asked, room):
+            return 8, None, []
+        answers = []
+        for place in range(asked):
+            kind, arg, rest = self.words_of(data, place)
+            number = self.event_refusal(kind, arg, rest)
+            if number is not None:
+                return number, len(answers), answers
+            answers.append(self.step(kind, arg))
+        return 0, len(answers), answers
+
+    def burst_refused(self, given, asked, room):
+        """Refusal 8: no whole events, more asked than given or than 512, or no room for two bytes each."""
+        return given % EVENT_BYTES != 0 or asked > given // EVENT_BYTES or self.too_many(asked) or self.too_small(asked, room)
+
+    def too_many(self, asked):
+        """At most 512 events in a call, however many are given."""
+        return asked > MOST_EVENTS
+
+    def too_small(self, asked, room):
+        """Two bytes for each answer."""
+        return room < 2 * asked
+
+    def words_of(self, data, place):
+        """Kind, argument and what is to be zero, four bytes each, the lowest first."""
+        event = data[EVENT_BYTES * place:EVENT_BYTES * (place + 1)]
+        return tuple(int.from_bytes(event[i:i + 4], 'little') for i in (0, 4, 8))
+
+    def event_refusal(self, kind, arg, rest):
+        """A step's refusals, and after the kind, before the argument, 2 for a third word that is not zero."""
+        number = self.refusal(kind, arg)
+        if number in (3, 1):
+            return number
+        return 2 if self.rest_refused(kind, rest) else number
+
+    def rest_refused(self, kind, rest):
+        """Of every kind."""
+        return rest != 0
 
     def start(self):
         """START opens a transaction from any state; the pointer stays."""

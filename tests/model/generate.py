@@ -1,7 +1,7 @@
-"""Seeded generators: trace logs, probe lines, view lines and the planner's starts and goals."""
+"""Seeded generators: trace logs, probe lines, view lines, burst lines and the planner's starts and goals."""
 
-from device import (BYTE, CALL, CHOSEN, FETCH, FILLING, GROUPS, LEVELS, OPENED, PINS, SENDING, SET_LIMIT, TEN, Device,
-                    Image, power_on)
+from device import (BYTE, CALL, CHOSEN, EVENT_BYTES, FETCH, FILLING, GROUPS, LEVELS, MOST_EVENTS, OPENED, PINS, SENDING,
+                    SET_LIMIT, TEN, Device, Image, power_on)
 from probe import WIDTHS, image_fields
 
 RESERVED = [n for n in range(128) if Device.map[n] is None]
@@ -438,6 +438,82 @@ def view_line(rng):
         image = broken_image(rng, image)
     line = ('%s\t%08x' % (image_fields(image), register_number(rng))).encode()
     if rng.random() < 0.04:
+        line = spoiled_line(rng, line)
+    return line + b'\n'
+
+
+# Burst lines.
+
+# Lines of so many events are long, so few of them are.
+BURST_SIZES, BURST_WEIGHTS = (0, 1, 6, 25, 100), (1, 3, 8, 6, 1)
+LONGEST_BURSTS = (MOST_EVENTS - 1, MOST_EVENTS, MOST_EVENTS + 1, MOST_EVENTS + 2)
+
+
+def event_bytes(kind, arg, rest):
+    return b''.join(word.to_bytes(4, 'little') for word in (kind, arg, rest))
+
+
+def meant_events(rng, image, count):
+    """Events that mean something, each in the bus state that those before it lead to."""
+    device = Device(image)
+    events = []
+    for _ in range(count):
+        kind, arg = meant_event(rng, device.bus, device.choice)
+        events.append((kind, arg & 0xFFFFFFFF, 0))
+        device.step(*events[-1][:2])
+    return events
+
+
+def refused_event(rng, event):
+    """The event with a kind, an argument or a third word that is refused, perhaps with two of them."""
+    kind, arg, rest = event
+    way = rng.randrange(5)
+    if way == 0:
+        return over(rng, 6, 1 << 32), rng.choice((0, arg, 0xFFFFFFFF)), 0
+    if way == 1:
+        return over(rng, 6, 1 << 32), arg, over(rng, 1, 1 << 32)
+    if way == 2:
+        kind = rng.choice((BYTE, FETCH, LEVELS))
+        return kind, over(rng, {BYTE: 256, FETCH: 2, LEVELS: SET_LIMIT}[kind], 1 << 32), rng.choice((0, 0, 1))
+    return rng.choice((kind, rng.randrange(6))), rng.choice((0, arg & 1)), over(rng, 1, 1 << 32)
+
+
+def burst_of_eight(rng, data, asked, room):
+    """One of refusal 8's faults: bytes past whole events, too much asked, or too little room."""
+    given = len(data) // EVENT_BYTES
+    way = rng.randrange(4)
+    if way == 0:
+        cut = rng.choice((1, 11, rng.randint(1, 11)))
+        return (data[:-cut] if data and rng.random() < 0.5 else data + bytes(cut)), min(asked, max(given - 1, 0)), room
+    if way == 1:
+        return data, given + rng.choice((1, 1, 2, rng.randint(1, 600))), 2 * MOST_EVENTS + 4
+    if way == 2:
+        return data, rng.choice((MOST_EVENTS + 1, over(rng, MOST_EVENTS + 1, 1 << 64))), rng.choice((0, room, 2 * MOST_EVENTS + 4))
+    asked = max(asked, 1) if given else 1
+    return data or bytes(EVENT_BYTES), asked, rng.choice((2 * asked - 1, asked, 0, rng.randrange(2 * asked)))
+
+
+def burst_line(rng):
+    """A burst line with its newline: half of the bursts are done whole, the others refused at some event or with 8."""
+    image = sound_image(rng, [rng.randrange(PINS) for _ in range(3)], rng.choice(KNOWN), rng.randrange(8))
+    count = rng.choices(BURST_SIZES, BURST_WEIGHTS)[0]
+    count = rng.choice(LONGEST_BURSTS) if rng.random() < 0.02 else rng.randint(count // 2, count)
+    events = meant_events(rng, image, count)
+    if events and rng.random() < 0.4:
+        place = rng.choice((0, count - 1, rng.randrange(count)))
+        events[place] = refused_event(rng, events[place])
+    data = b''.join(event_bytes(*event) for event in events)
+    # Where more are given than may be asked, as many as may be, or one more.
+    asked = rng.choice((count, count, rng.randint(0, count)) if count <= MOST_EVENTS else (MOST_EVENTS, MOST_EVENTS + 1))
+    room = 2 * asked + rng.choice((0, 0, 1, 2))
+    if rng.random() < 0.2:
+        data, asked, room = burst_of_eight(rng, data, asked, room)
+    if rng.random() < 0.12:
+        image = broken_image(rng, image)
+        if rng.random() < 0.3:
+            asked = 0
+    line = ('%s\t%016x\t%04x\t%s' % (image_fields(image), asked, room, data.hex())).encode()
+    if rng.random() < 0.03:
         line = spoiled_line(rng, line)
     return line + b'\n'
 

@@ -1,7 +1,7 @@
-"""One-rule mutants of the model, and which of them only images or only views can show; try_mutants.py tries them."""
+"""One-rule mutants of the model, and which only images, only views or only bursts can show; try_mutants.py tries them."""
 
-from device import (ARMED, BYTE, CALL, CHOSEN, DEAF, FETCH, FILLING, GROUPS, IDLE, LEVELS, OPENED, PINS, PORT_KIND,
-                    SENDING, SET_LIMIT, Device, number_map)
+from device import (ARMED, BYTE, CALL, CHOSEN, DEAF, EVENT_BYTES, FETCH, FILLING, GROUPS, IDLE, LEVELS, MOST_EVENTS, OPENED,
+                    PINS, PORT_KIND, SENDING, SET_LIMIT, Device, number_map)
 
 # Name of a mutant that no output can tell from the model, and why.
 SURVIVORS = {}
@@ -28,6 +28,18 @@ ONLY_BY_VIEWS = frozenset('''
     IntOfBrokenImageIsQuiet IntOfBrokenImageIsTold DrivesOfBrokenImageAreTold ByteOfBrokenImageIsTold
     ReservedNumberShowsNull LargeNumberShowsNull NumberBeforeImage NumberLowByteOnly TopBitOfNumberDropped
     ByteOnlyWhileSending ByteAskedSettles
+'''.split())
+
+# The mutants of many events in one call: no single event knows them.
+ONLY_BY_BURSTS = frozenset('''
+    BurstCountsOneTooMany BurstCountsRefused BurstCountsGiven BurstStopsOneEarly BurstGoesOnAfterRefusal
+    BurstAnswersRefused BurstUndoesOnRefusal BurstTellsNoCountOfRefused BurstClearsRoom
+    RestOfStartIgnored RestOfStopIgnored RestOfResetIgnored RestOfByteIgnored RestOfFetchIgnored RestOfLevelsIgnored
+    RestLowByteOnly RestBeforeKind RestBeforeImage RestIsArgumentsUpperWord
+    EventWordsHighestFirst EventOfEightBytes ArgumentLowHalfOnly
+    Burst513Passes Burst512Fails BurstGivenOver512Fails BurstRoomOneShortPasses BurstRoomForAllGiven
+    BurstPartOfEventPasses BurstLessGivenPasses BurstEightAfterThree BurstEightTellsNone BurstOfNoneOnBrokenFails
+    BurstOfNoneTellsNoCount
 '''.split())
 
 MUTANTS = []
@@ -1474,3 +1486,201 @@ class ByteAskedSettles(Device):
             for i in self.settled_by_fetch(number, False):
                 self.settle(i)
         return told
+
+
+# Bursts.
+
+@mutant
+class BurstCountsOneTooMany(Device):
+    def burst(self, data, asked, room):
+        number, done, answers = super().burst(data, asked, room)
+        return number, done + 1 if number == 0 and done else done, answers
+
+
+@mutant
+class BurstCountsRefused(Device):
+    def burst(self, data, asked, room):
+        number, done, answers = super().burst(data, asked, room)
+        return number, done + 1 if number in (1, 2, 3) else done, answers
+
+
+@mutant
+class BurstCountsGiven(Device):
+    def burst(self, data, asked, room):
+        number, done, answers = super().burst(data, asked, room)
+        return number, len(data) // EVENT_BYTES if number == 0 else done, answers
+
+
+@mutant
+class BurstStopsOneEarly(Device):
+    def burst(self, data, asked, room):
+        number = super().burst_refused(len(data), asked, room)
+        return super().burst(data, asked, room) if number else super().burst(data, max(asked - 1, 0), room)
+
+
+@mutant
+class BurstGoesOnAfterRefusal(Device):
+    def burst(self, data, asked, room):
+        number, done, answers = super().burst(data, asked, room)
+        if number in (1, 2):
+            for place in range(done + 1, asked):
+                kind, arg, rest = self.words_of(data, place)
+                if self.event_refusal(kind, arg, rest) is None:
+                    self.step(kind, arg)
+        return number, done, answers
+
+
+@mutant
+class BurstAnswersRefused(Device):
+    def burst(self, data, asked, room):
+        number, done, answers = super().burst(data, asked, room)
+        return number, done, answers + ['-'] if number in (1, 2, 3) else answers
+
+
+@mutant
+class BurstUndoesOnRefusal(Device):
+    def burst(self, data, asked, room):
+        before = self.image()
+        number, done, answers = super().burst(data, asked, room)
+        if number in (1, 2):
+            self.__init__(before)
+        return number, done, answers
+
+
+@mutant
+class BurstTellsNoCountOfRefused(Device):
+    def burst(self, data, asked, room):
+        number, done, answers = super().burst(data, asked, room)
+        return number, done if number == 0 else None, answers
+
+
+@mutant
+class BurstClearsRoom(Device):
+    def burst(self, data, asked, room):
+        number, done, answers = super().burst(data, asked, room)
+        return number, done, answers if done is None else answers + ['-'] * (room // 2 - done)
+
+
+def rest_mutant(name, ignored):
+    """A mutant that does not look at one kind's third word."""
+    def rest_refused(self, kind, rest):
+        return kind != ignored and rest != 0
+    mutant(type('RestOf%sIgnored' % name, (Device,), {'rest_refused': rest_refused}))
+
+
+for kind_number, kind_name in enumerate(('Start', 'Stop', 'Byte', 'Fetch', 'Levels', 'Reset')):
+    rest_mutant(kind_name, kind_number)
+
+
+@mutant
+class RestLowByteOnly(Device):
+    def rest_refused(self, kind, rest):
+        return rest & 0xFF != 0
+
+
+@mutant
+class RestBeforeKind(Device):
+    def event_refusal(self, kind, arg, rest):
+        return 2 if rest != 0 and not self.broken else super().event_refusal(kind, arg, rest)
+
+
+@mutant
+class RestBeforeImage(Device):
+    def event_refusal(self, kind, arg, rest):
+        return 2 if rest != 0 and kind < 6 else super().event_refusal(kind, arg, rest)
+
+
+@mutant
+class RestIsArgumentsUpperWord(Device):
+    def event_refusal(self, kind, arg, rest):
+        return self.refusal(kind, arg | rest << 32)
+
+
+@mutant
+class EventWordsHighestFirst(Device):
+    def words_of(self, data, place):
+        return tuple(int.from_bytes(word.to_bytes(4, 'little'), 'big') for word in super().words_of(data, place))
+
+
+@mutant
+class EventOfEightBytes(Device):
+    def words_of(self, data, place):
+        event = data[8 * place:8 * place + 8]
+        return int.from_bytes(event[:4], 'little'), int.from_bytes(event[4:], 'little'), 0
+
+
+@mutant
+class ArgumentLowHalfOnly(Device):
+    def words_of(self, data, place):
+        kind, arg, rest = super().words_of(data, place)
+        return kind, arg & 0xFFFF if kind == BYTE else arg, rest
+
+
+@mutant
+class Burst513Passes(Device):
+    def too_many(self, asked):
+        return asked > MOST_EVENTS + 1
+
+
+@mutant
+class Burst512Fails(Device):
+    def too_many(self, asked):
+        return asked > MOST_EVENTS - 1
+
+
+@mutant
+class BurstGivenOver512Fails(Device):
+    def burst_refused(self, given, asked, room):
+        return super().burst_refused(given, asked, room) or given > EVENT_BYTES * MOST_EVENTS
+
+
+@mutant
+class BurstRoomOneShortPasses(Device):
+    def too_small(self, asked, room):
+        return room < 2 * asked - 1
+
+
+@mutant
+class BurstRoomForAllGiven(Device):
+    def burst_refused(self, given, asked, room):
+        return super().burst_refused(given, asked, room) or room < 2 * (given // EVENT_BYTES)
+
+
+@mutant
+class BurstPartOfEventPasses(Device):
+    def burst_refused(self, given, asked, room):
+        return super().burst_refused(given - given % EVENT_BYTES, asked, room)
+
+
+@mutant
+class BurstLessGivenPasses(Device):
+    def burst(self, data, asked, room):
+        given = len(data) // EVENT_BYTES
+        return super().burst(data, given if given < asked <= MOST_EVENTS else asked, room)
+
+
+@mutant
+class BurstEightAfterThree(Device):
+    def burst(self, data, asked, room):
+        return (3, 0, []) if self.broken and asked > 0 else super().burst(data, asked, room)
+
+
+@mutant
+class BurstEightTellsNone(Device):
+    def burst(self, data, asked, room):
+        number, done, answers = super().burst(data, asked, room)
+        return number, 0 if number == 8 else done, answers
+
+
+@mutant
+class BurstOfNoneOnBrokenFails(Device):
+    def burst(self, data, asked, room):
+        number, done, answers = super().burst(data, asked, room)
+        return 3 if number == 0 and self.broken else number, done, answers
+
+
+@mutant
+class BurstOfNoneTellsNoCount(Device):
+    def burst(self, data, asked, room):
+        number, done, answers = super().burst(data, asked, room)
+        return number, done if asked else None, answers

@@ -4,6 +4,7 @@ import random
 import sys
 import time
 
+import bursts
 import generate
 import judge
 import probe
@@ -285,6 +286,61 @@ def test_views_reader():
     rng = random.Random(8)
     for _ in range(200):
         assert views.run_lines(generate.spoiled_line(rng, line) + b'\n') == b'refused\t7\n'
+
+
+def events_of(*events):
+    return b''.join(generate.event_bytes(*(event + (0, 0))[:3]) for event in events)
+
+
+def test_bursts():
+    """The loss of the README: pin 0 unmasked over the bus at choice 2, then its fibre opens."""
+    events = ((START, 7), (BYTE, 0x44), (BYTE, 0x54), (BYTE, 0xFE), (LEVELS, 1), (FETCH, 1))
+    answers = ['-', 'ack', 'ack', 'ack', '-', 0xFF]
+    data = events_of(*events)
+    for asked in range(len(events) + 1):
+        one, single = Device.make(2, 0), Device.make(2, 0)
+        assert one.burst(data, asked, 2 * asked) == (0, asked, answers[:asked])
+        assert [single.step(*event) for event in events[:asked]] == answers[:asked]
+        assert one.image() == single.image()
+    for bad, number in (((6, 0, 0), 1), ((6, 0, 1), 1), ((BYTE, 256, 0), 2), ((START, 0, 1), 2), ((STOP, 0, 1 << 31), 2),
+                        ((RESET, 0, 256), 2), ((LEVELS, 0, 1), 2), ((1 << 31, 256, 1), 1)):
+        for place in range(len(events)):
+            one, single = Device.make(2, 0), Device.make(2, 0)
+            spoiled = data[:12 * place] + events_of(bad) + data[12 * place:]
+            assert one.burst(spoiled, 7, 14) == (number, place, answers[:place])
+            for event in events[:place]:
+                single.step(*event)
+            assert one.image() == single.image()
+
+
+def test_bursts_of_eight():
+    sound = Device.make(2, 0).image()
+    starts = events_of((START,)) * 514
+    for image, passed in ((sound, 0), (sound._replace(bus=8), 3)):
+        for given, asked, room in ((12, 2, 99), (0, 1, 99), (11, 0, 99), (13, 1, 99), (13, 0, 99), (12, 1, 1), (12, 1, 0),
+                                   (514 * 12, 513, 9999), (514 * 12, 512, 1023), (514 * 12, 1 << 63, 0)):
+            device = Device(image)
+            assert device.burst(starts[:given], asked, room) == (8, None, []), (given, asked, room)
+            assert device.image() == image
+        for given, asked, room in ((12, 1, 2), (12, 1, 3), (514 * 12, 512, 1024), (512 * 12, 512, 1024)):
+            done = 0 if passed else asked
+            assert Device(image).burst(starts[:given], asked, room) == (passed, done, ['-'] * done), (given, asked, room)
+        for given, room in ((0, 0), (12, 0), (514 * 12, 9999)):
+            assert Device(image).burst(starts[:given], 0, room) == (0, 0, [])
+
+
+def test_bursts_reader():
+    sound = Device.make(2, 5)
+    line = ('%s\t%016x\t%04x\t%s' % (probe.image_fields(sound.image()), 1, 5, events_of((START,), (6,)).hex())).encode()
+    sound.step(START, 0)
+    answer = ('0\t0000000000000001\t00003c3c3c\t%s\n' % probe.image_fields(sound.image())).encode()
+    assert bursts.run_lines(line) == bursts.run_lines(line + b'\n') == answer
+    none = line[:-48].replace(b'0000000000000001\t0005', b'0000000000000000\t0000')
+    assert bursts.run_lines(none).startswith(b'0\t0000000000000000\t\t')
+    assert bursts.run_lines(line[:-2]).startswith(b'8\t0000000000000077\t3c3c3c3c3c\t')
+    for spoiled in (b'', line[:-1], line + b'0', line + b'\t', line + b'\r', line[:-49], line[1:], line[:-1] + b'G',
+                    line + b'00' * 6180, line.replace(b'\t0005\t', b'\t0408\t')):
+        assert bursts.run_lines(spoiled + b'\n') == b'refused\t7\n', spoiled
 
 
 def test_probe_reader():

@@ -1,24 +1,26 @@
 """Whether the standard corpus tells each one-rule mutant from the model: python3 try_mutants.py [seed] [--all].
 
-A mutant that only images can show is tried on images alone, one that only views can show on views alone, unless --all
-has the logs, for views the images too, run through it.
+A mutant that only images can show is tried on images alone, one that only views or only bursts can show on those alone,
+unless --all has the logs, for views and bursts the images too, run through it.
 """
 
 import random
 import sys
 import time
 
+import bursts
 import generate
 import probe
 import views
 from device import Device
-from mutants import MUTANTS, ONLY_BY_IMAGES, ONLY_BY_VIEWS, SURVIVORS
+from mutants import MUTANTS, ONLY_BY_BURSTS, ONLY_BY_IMAGES, ONLY_BY_VIEWS, SURVIVORS
 from trace import answers, read_log
 
 TRACES = 250
 FURTHER_TRACES = 750
 IMAGE_LINES = 6000
 VIEW_LINES = 3000
+BURST_LINES = 3000
 
 
 class Cases:
@@ -67,18 +69,30 @@ def view_cases(rng, count):
     return Cases(map(views.read_line, lines), lambda read, cls: [views.answer_to(read, cls)])
 
 
+def burst_cases(rng, count):
+    """Burst lines, each with its one answer."""
+    lines = (generate.burst_line(rng)[:-1] for _ in range(count))
+    return Cases(map(bursts.read_line, lines), lambda read, cls: [bursts.answer_to(read, cls)])
+
+
 def main(seed, everything):
     began = time.monotonic()
     names = [cls.__name__ for cls in MUTANTS]
-    assert len(set(names)) == len(names) and ONLY_BY_IMAGES | ONLY_BY_VIEWS | set(SURVIVORS) <= set(names)
+    assert len(set(names)) == len(names)
+    assert ONLY_BY_IMAGES | ONLY_BY_VIEWS | ONLY_BY_BURSTS | set(SURVIVORS) <= set(names)
     rng = random.Random(seed)
     logs, images, asked = trace_cases(rng, TRACES), image_cases(rng, IMAGE_LINES), view_cases(rng, VIEW_LINES)
-    by_trace, by_image, by_view, alive, wrong = [], [], [], [], []
+    # Of its own seed, so that what is asked before bursts does not move them.
+    many = burst_cases(random.Random('bursts %d' % seed), BURST_LINES)
+    by_trace, by_image, by_view, by_burst, alive, wrong = [], [], [], [], [], []
+    alone = (('views', ONLY_BY_VIEWS, asked, by_view), ('bursts', ONLY_BY_BURSTS, many, by_burst))
     for cls, name in zip(MUTANTS, names):
-        if name in ONLY_BY_VIEWS:
-            (by_view if asked.tell(cls) else alive).append(name)
+        by_these = next((place for place in alone if name in place[1]), None)
+        if by_these:
+            what, _, cases, caught = by_these
+            (caught if cases.tell(cls) else alive).append(name)
             if everything and (logs.tell(cls) or images.tell(cls)):
-                wrong.append('%s: not only views tell it' % name)
+                wrong.append('%s: not only %s tell it' % (name, what))
             continue
         listed = name in ONLY_BY_IMAGES
         traced = (everything or not listed) and logs.tell(cls)
@@ -89,10 +103,11 @@ def main(seed, everything):
         # One log in fifty tells the rarest of the others, so that one seed in a hundred asks for more logs than these.
         if imaged and not listed and not trace_cases(random.Random('further %d' % seed), FURTHER_TRACES).tell(cls):
             wrong.append('%s: no log tells it' % name)
-    print('seed %d: %d mutants, %d caught by traces, %d only by images, %d only by views, %d survive, %.1f s' % (
-        seed, len(MUTANTS), len(by_trace), len(by_image), len(by_view), len(alive), time.monotonic() - began))
+    print('seed %d: %d mutants, %d caught by traces, %d only by images, %d only by views, %d only by bursts, %d survive, %.1f s' % (
+        seed, len(MUTANTS), len(by_trace), len(by_image), len(by_view), len(by_burst), len(alive), time.monotonic() - began))
     print('only by images: %s' % ' '.join(by_image))
     print('only by views: %s' % ' '.join(by_view))
+    print('only by bursts: %s' % ' '.join(by_burst))
     for name in alive:
         print('survives: %s: %s' % (name, SURVIVORS.get(name, 'not expected')))
     for line in wrong:

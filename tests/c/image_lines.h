@@ -1,0 +1,37 @@
+/* An image as the eight fields of a line. */
+#ifndef IMAGE_LINES_H
+#define IMAGE_LINES_H
+
+#include "image_text.h"
+
+#include <ghixramel.h>
+
+/* What the eight fields and the tab after each take. */
+enum { IMAGE_BYTES = 334 };
+
+static inline const uint8_t *image_fields(const uint8_t *at, struct ghixramel_image *image)
+{
+    at = registers_field(at, image->registers);
+    for (int i = 0; i < 4; i++)
+        at = field(at, 16, &image->pins[i]);
+    return field(field(field(at, 2, &image->pointer), 2, &image->bus), 2, &image->choice);
+}
+
+static inline uint8_t *put_number(uint8_t *to, uint64_t number)
+{
+    return put_hex(put_hex(to, (uint32_t)(number >> 32), 8), (uint32_t)number, 8);
+}
+
+/* No tab after the last. */
+static inline uint8_t *put_image(uint8_t *to, const struct ghixramel_image *image)
+{
+    for (int i = 0; i < REGISTERS; i++)
+        to = put_hex(to, image->registers[i], 2);
+    for (int i = 0; i < 4; i++)
+        to = put_number(put_byte(to, '\t'), image->pins[i]);
+    to = put_hex(put_byte(to, '\t'), (uint32_t)image->pointer, 2);
+    to = put_hex(put_byte(to, '\t'), (uint32_t)image->bus, 2);
+    return put_hex(put_byte(to, '\t'), (uint32_t)image->choice, 2);
+}
+
+#endif
