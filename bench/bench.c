@@ -1,5 +1,7 @@
-/* The library and the peer on the same events in one process, taking turns, best of seven each; then the planner.
- * Prints lines `step`, `plan`: nanoseconds an event or a plan of the library, of the peer, and their ratio. */
+/* The library and the peer on the same events in one process, taking turns, best of seven each: single steps, then bursts against the
+ * peer's single steps; then the planner.
+ * Prints lines `step`, `burst`, `plan`: nanoseconds an event or a plan of the library, of the peer, and their ratio. */
+#include "event_bytes.h"
 #include "mix.h"
 #include "peer.h"
 
@@ -13,6 +15,7 @@ struct pair {
 };
 
 static struct event events[EVENTS];
+static uint8_t event_bytes[EVENTS * GHIXRAMEL_EVENT_BYTES];
 static struct pair pairs[PAIRS];
 
 _Noreturn static void differ(const char *what, size_t place)
@@ -128,6 +131,79 @@ static void bench_steps(void)
     printf("step\t%.2f\t%.2f\t%.2f\n", (double)our_best / steps, (double)peer_best / steps, (double)our_best / (double)peer_best);
 }
 
+/* One way to go over all events in bursts of 512, the last shorter: answers to the burst's events, from the first on. */
+typedef uint32_t run_burst(void *device, size_t first, size_t count, uint8_t answers[2 * GHIXRAMEL_MOST_EVENTS]);
+
+static uint32_t burst_of_library(void *device, size_t first, size_t count, uint8_t answers[2 * GHIXRAMEL_MOST_EVENTS])
+{
+    uint64_t done[1] = {0};
+    uint32_t refused = ghixramel_burst(device, event_bytes + first * GHIXRAMEL_EVENT_BYTES, count * GHIXRAMEL_EVENT_BYTES, count, answers,
+                                       2 * GHIXRAMEL_MOST_EVENTS, done);
+    return refused + (uint32_t)(count - done[0]);
+}
+
+/* The first refusal ends it, as in the library. */
+static uint32_t burst_of_peer(void *device, size_t first, size_t count, uint8_t answers[2 * GHIXRAMEL_MOST_EVENTS])
+{
+    uint32_t refused = 0;
+    for (size_t i = 0; i < count && refused == 0; i++)
+        refused = peer_step(device, events[first + i].kind, events[first + i].argument, answers + 2 * i);
+    return refused;
+}
+
+static size_t burst_at(size_t first)
+{
+    return EVENTS - first < GHIXRAMEL_MOST_EVENTS ? EVENTS - first : GHIXRAMEL_MOST_EVENTS;
+}
+
+/* Untimed: answers and state after every burst. */
+static void check_bursts(void)
+{
+    struct ghixramel ours = {0};
+    struct peer peer = {0};
+    same(ghixramel_power_on(&ours, CHOICE, LEVELS), peer_power_on(&peer, CHOICE, LEVELS), "devices made", 0);
+    for (size_t first = 0; first < EVENTS; first += GHIXRAMEL_MOST_EVENTS) {
+        uint8_t our_answers[2 * GHIXRAMEL_MOST_EVENTS] = {0}, peer_answers[2 * GHIXRAMEL_MOST_EVENTS] = {0};
+        same(burst_of_library(&ours, first, burst_at(first), our_answers), 0, "bursts and their events", first);
+        same(burst_of_peer(&peer, first, burst_at(first), peer_answers), 0, "steps and their events", first);
+        if (memcmp(our_answers, peer_answers, sizeof our_answers) != 0)
+            differ("answers to a burst", first);
+        same_state(&ours, &peer, first);
+    }
+}
+
+/* All bytes of the answers are summed, on both sides alike. */
+static int64_t time_bursts(run_burst *run, void *device, uint64_t *sum)
+{
+    uint8_t answers[2 * GHIXRAMEL_MOST_EVENTS] = {0};
+    int64_t began = now();
+    for (int times = 0; times < TIMES_OVER; times++)
+        for (size_t first = 0; first < EVENTS; first += GHIXRAMEL_MOST_EVENTS) {
+            *sum += run(device, first, burst_at(first), answers);
+            for (size_t i = 0; i < sizeof answers; i++)
+                *sum += answers[i];
+        }
+    return now() - began;
+}
+
+static void bench_bursts(void)
+{
+    struct ghixramel ours = {0};
+    struct peer peer = {0};
+    int64_t our_best = 0, peer_best = 0;
+    for (size_t round = 0; round < ROUNDS; round++) {
+        uint64_t our_sum = 0, peer_sum = 0;
+        ghixramel_power_on(&ours, CHOICE, LEVELS);
+        peer_power_on(&peer, CHOICE, LEVELS);
+        keep_best(&our_best, time_bursts(burst_of_library, &ours, &our_sum));
+        keep_best(&peer_best, time_bursts(burst_of_peer, &peer, &peer_sum));
+        same(our_sum, peer_sum, "sums of answers to bursts", round);
+        same_state(&ours, &peer, round);
+    }
+    double steps = (double)EVENTS * TIMES_OVER;
+    printf("burst\t%.2f\t%.2f\t%.2f\n", (double)our_best / steps, (double)peer_best / steps, (double)our_best / (double)peer_best);
+}
+
 static void make_setting(uint8_t setting[GHIXRAMEL_SETTING_BYTES], uint64_t *random)
 {
     for (int i = 0; i < GHIXRAMEL_SETTING_BYTES; i++)
@@ -215,8 +291,10 @@ static void make_events(void)
 {
     struct mix mix;
     mix_begin(&mix, SEED, CHOICE, LEVELS);
-    for (size_t i = 0; i < EVENTS; i++)
+    for (size_t i = 0; i < EVENTS; i++) {
         events[i] = mix_next(&mix);
+        put_event(event_bytes + i * GHIXRAMEL_EVENT_BYTES, events[i].kind, events[i].argument, 0);
+    }
 }
 
 /* The mix, so that a reader sees what was timed. */
@@ -235,6 +313,8 @@ int main(void)
     tell_mix();
     check_steps();
     bench_steps();
+    check_bursts();
+    bench_bursts();
     make_pairs();
     check_plans();
     bench_plans();
