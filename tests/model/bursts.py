@@ -34,7 +34,7 @@ def answer_bytes(answer):
 
 
 def answer_to(read, device_class=Device):
-    """The answer line to a line read: refusal, events done, all of the room, the image after; a broken image has none."""
+    """The answer line to a line read: refusal, events done, all of the room, the image after, a broken one refused."""
     if read is None:
         return UNREADABLE
     image, asked, room, data = read

@@ -1,4 +1,7 @@
-"""A program under test against the model: python3 compare.py trace|probe|plan|views|burst COMMAND... [--seed N] [--count N]."""
+"""A program under test against the model: python3 compare.py WHAT COMMAND... [--seed N] [--count N].
+
+WHAT is trace, probe, plan, views or burst.
+"""
 
 import random
 import subprocess

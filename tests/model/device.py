@@ -204,7 +204,8 @@ class Device:
 
     def burst_refused(self, given, asked, room):
         """Refusal 8: no whole events, more asked than given or than 512, or no room for two bytes each."""
-        return given % EVENT_BYTES != 0 or asked > given // EVENT_BYTES or self.too_many(asked) or self.too_small(asked, room)
+        return (given % EVENT_BYTES != 0 or asked > given // EVENT_BYTES
+                or self.too_many(asked) or self.too_small(asked, room))
 
     def too_many(self, asked):
         """At most 512 events in a call, however many are given."""

@@ -488,7 +488,8 @@ def burst_of_eight(rng, data, asked, room):
     if way == 1:
         return data, given + rng.choice((1, 1, 2, rng.randint(1, 600))), 2 * MOST_EVENTS + 4
     if way == 2:
-        return data, rng.choice((MOST_EVENTS + 1, over(rng, MOST_EVENTS + 1, 1 << 64))), rng.choice((0, room, 2 * MOST_EVENTS + 4))
+        asked = rng.choice((MOST_EVENTS + 1, over(rng, MOST_EVENTS + 1, 1 << 64)))
+        return data, asked, rng.choice((0, room, 2 * MOST_EVENTS + 4))
     asked = max(asked, 1) if given else 1
     return data or bytes(EVENT_BYTES), asked, rng.choice((2 * asked - 1, asked, 0, rng.randrange(2 * asked)))
 
@@ -504,7 +505,8 @@ def burst_line(rng):
         events[place] = refused_event(rng, events[place])
     data = b''.join(event_bytes(*event) for event in events)
     # Where more are given than may be asked, as many as may be, or one more.
-    asked = rng.choice((count, count, rng.randint(0, count)) if count <= MOST_EVENTS else (MOST_EVENTS, MOST_EVENTS + 1))
+    whole_or_part = (count, count, rng.randint(0, count))
+    asked = rng.choice(whole_or_part if count <= MOST_EVENTS else (MOST_EVENTS, MOST_EVENTS + 1))
     room = 2 * asked + rng.choice((0, 0, 1, 2))
     if rng.random() < 0.2:
         data, asked, room = burst_of_eight(rng, data, asked, room)

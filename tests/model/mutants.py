@@ -1,7 +1,7 @@
-"""One-rule mutants of the model, and which only images, only views or only bursts can show; try_mutants.py tries them."""
+"""One-rule mutants of the model, and which only images, views or bursts can show; try_mutants.py tries them."""
 
-from device import (ARMED, BYTE, CALL, CHOSEN, DEAF, EVENT_BYTES, FETCH, FILLING, GROUPS, IDLE, LEVELS, MOST_EVENTS, OPENED,
-                    PINS, PORT_KIND, SENDING, SET_LIMIT, Device, number_map)
+from device import (ARMED, BYTE, CALL, CHOSEN, DEAF, EVENT_BYTES, FETCH, FILLING, GROUPS, IDLE, LEVELS, MOST_EVENTS,
+                    OPENED, PINS, PORT_KIND, SENDING, SET_LIMIT, Device, number_map)
 
 # Name of a mutant that no output can tell from the model, and why.
 SURVIVORS = {}
@@ -1514,8 +1514,8 @@ class BurstCountsGiven(Device):
 @mutant
 class BurstStopsOneEarly(Device):
     def burst(self, data, asked, room):
-        number = super().burst_refused(len(data), asked, room)
-        return super().burst(data, asked, room) if number else super().burst(data, max(asked - 1, 0), room)
+        refused = self.burst_refused(len(data), asked, room)
+        return super().burst(data, asked if refused else max(asked - 1, 0), room)
 
 
 @mutant

@@ -302,8 +302,8 @@ def test_bursts():
         assert one.burst(data, asked, 2 * asked) == (0, asked, answers[:asked])
         assert [single.step(*event) for event in events[:asked]] == answers[:asked]
         assert one.image() == single.image()
-    for bad, number in (((6, 0, 0), 1), ((6, 0, 1), 1), ((BYTE, 256, 0), 2), ((START, 0, 1), 2), ((STOP, 0, 1 << 31), 2),
-                        ((RESET, 0, 256), 2), ((LEVELS, 0, 1), 2), ((1 << 31, 256, 1), 1)):
+    for bad, number in (((6, 0, 0), 1), ((6, 0, 1), 1), ((BYTE, 256, 0), 2), ((START, 0, 1), 2),
+                        ((STOP, 0, 1 << 31), 2), ((RESET, 0, 256), 2), ((LEVELS, 0, 1), 2), ((1 << 31, 256, 1), 1)):
         for place in range(len(events)):
             one, single = Device.make(2, 0), Device.make(2, 0)
             spoiled = data[:12 * place] + events_of(bad) + data[12 * place:]
@@ -317,8 +317,8 @@ def test_bursts_of_eight():
     sound = Device.make(2, 0).image()
     starts = events_of((START,)) * 514
     for image, passed in ((sound, 0), (sound._replace(bus=8), 3)):
-        for given, asked, room in ((12, 2, 99), (0, 1, 99), (11, 0, 99), (13, 1, 99), (13, 0, 99), (12, 1, 1), (12, 1, 0),
-                                   (514 * 12, 513, 9999), (514 * 12, 512, 1023), (514 * 12, 1 << 63, 0)):
+        for given, asked, room in ((12, 2, 99), (0, 1, 99), (11, 0, 99), (13, 1, 99), (13, 0, 99), (12, 1, 1),
+                                   (12, 1, 0), (514 * 12, 513, 9999), (514 * 12, 512, 1023), (514 * 12, 1 << 63, 0)):
             device = Device(image)
             assert device.burst(starts[:given], asked, room) == (8, None, []), (given, asked, room)
             assert device.image() == image

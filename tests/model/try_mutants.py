@@ -103,8 +103,9 @@ def main(seed, everything):
         # One log in fifty tells the rarest of the others, so that one seed in a hundred asks for more logs than these.
         if imaged and not listed and not trace_cases(random.Random('further %d' % seed), FURTHER_TRACES).tell(cls):
             wrong.append('%s: no log tells it' % name)
-    print('seed %d: %d mutants, %d caught by traces, %d only by images, %d only by views, %d only by bursts, %d survive, %.1f s' % (
-        seed, len(MUTANTS), len(by_trace), len(by_image), len(by_view), len(by_burst), len(alive), time.monotonic() - began))
+    print('seed %d: %d mutants, %d caught by traces, only by images %d, by views %d, by bursts %d, %d survive, %.1f s' % (
+        seed, len(MUTANTS), len(by_trace), len(by_image), len(by_view), len(by_burst), len(alive),
+        time.monotonic() - began))
     print('only by images: %s' % ' '.join(by_image))
     print('only by views: %s' % ' '.join(by_view))
     print('only by bursts: %s' % ' '.join(by_burst))
