@@ -1,31 +1,20 @@
 // The service engineer's command: plan START GOAL, or lines START<tab>GOAL on standard input.
+ghost use Rattle.plan_lines.specs.Asks.{Said};
 use device_rules::UNREADABLE;
 use libc::STDERR_FILENO;
 use libc::STDOUT_FILENO;
 use plan_lines::ROOM;
 use plan_lines::Reading;
 use planner_promise::BAD_SETTING;
+use planner_promise::NO_QUIET_WAY;
+
+// How many pins are looked at when there is no quiet way.
+const PINS: u8 = 24;
 
 fn say_refusal(number: u8) {
     let mut out = [0u8; ROOM];
     let end = plan_lines::put_refusal(&mut out, 0, number);
     io::write_all(STDOUT_FILENO, &out[0..end]);
-}
-
-// What was wrong with a start or a goal, for a person.
-fn explain_setting(number: u8) {
-    if number == BAD_SETTING {
-        io::write_all(
-            STDERR_FILENO,
-            b"plan: a start and a goal are ten bytes each, 04 05 06 0c 0d 0e 5c 70 71 72, and the 5c byte is 07 or less\n",
-        );
-    }
-    if number == UNREADABLE {
-        io::write_all(
-            STDERR_FILENO,
-            b"plan: give a start and a goal as pairs of lowercase hex digits, nothing else; on a line of standard input with one tab between them\n",
-        );
-    }
 }
 
 // Why no quiet way exists, for a person: one pin that is in the way.
@@ -48,7 +37,7 @@ fn explain_pin(pin: u8) {
 fn explain(start: &[u8; 10], goal: &[u8; 10]) {
     let stuck = planner::stuck_pins(start, goal);
     let mut pin = 0u8;
-    while pin < 24 {
+    while pin < PINS {
         if (stuck >> pin) & 1 == 1 {
             explain_pin(pin);
         }
@@ -56,18 +45,39 @@ fn explain(start: &[u8; 10], goal: &[u8; 10]) {
     }
 }
 
+// What was wrong with a line that is refused, for a person.
+fn explain_refusal(number: u8, r: Reading) {
+    match number {
+        BAD_SETTING => {
+            io::write_all(
+                STDERR_FILENO,
+                b"plan: a start and a goal are ten bytes each, 04 05 06 0c 0d 0e 5c 70 71 72, and the 5c byte is 07 or less\n",
+            );
+        }
+        UNREADABLE => {
+            io::write_all(
+                STDERR_FILENO,
+                b"plan: give a start and a goal as pairs of lowercase hex digits, nothing else; on a line of standard input with one tab between them\n",
+            );
+        }
+        NO_QUIET_WAY => {
+            let first = r.start;
+            let second = r.goal;
+            explain(&first.bytes, &second.bytes)
+        }
+        _ => {}
+    }
+}
+
 // The answer to one whole line, and for a person what is wrong with it.
-fn answer(r: Reading) {
+fn answer(r: Reading)
+    requires { ⌜ Said r ⌝ }
+{
     let mut out = [0u8; ROOM];
     let told = plan_lines::answer(r, &mut out, 0);
     let end = told.end;
     io::write_all(STDOUT_FILENO, &out[0..end]);
-    explain_setting(told.refusal);
-    if told.refusal == 4 {
-        let first = r.start;
-        let second = r.goal;
-        explain(&first.bytes, &second.bytes);
-    }
+    explain_refusal(told.refusal, r);
 }
 
 // The two arguments, as one line.
@@ -75,13 +85,13 @@ fn from_arguments() {
     let mut word = io::buffer();
     let n = os::arg(1, &mut word);
     if os::errno() != 0 {
-        say_refusal(7);
+        say_refusal(UNREADABLE);
         return;
     }
     let start = plan_lines::grow(plan_lines::begin(), &word[0..n]);
     let m = os::arg(2, &mut word);
     if os::errno() != 0 {
-        say_refusal(7);
+        say_refusal(UNREADABLE);
         return;
     }
     let tab = plan_lines::grow(start, b"\t");
@@ -94,24 +104,36 @@ struct Lines {
     any: bool,
 }
 
+// A line that is whole is answered, and the next begins.
+fn answer_whole(r: Reading, whole: bool) -> Reading
+    requires { ⌜ Said r ⌝ }
+    ensures { λ y. ⌜ Said y ⌝ }
+{
+    if whole {
+        answer(r);
+        return plan_lines::begin();
+    }
+    r
+}
+
 // Every line that ends in this piece is answered; the rest of the piece begins the next line.
-fn answer_piece(l: Lines, piece: &[u8]) -> Lines {
+fn answer_piece(l: Lines, piece: &[u8]) -> Lines
+    requires { ⌜ Said (l .reading) ⌝ }
+    ensures { λ y. ⌜ Said (y .reading) ⌝ }
+{
     let mut reading = l.reading;
     let mut any = l.any;
     let mut rest = piece;
-    let mut newline = text_pieces::newline_at(rest);
-    while newline < rest.len() {
-        answer(plan_lines::grow(reading, &rest[0..newline]));
-        reading = plan_lines::begin();
-        any = false;
-        let next = newline + 1;
-        rest = &rest[next..];
-        newline = text_pieces::newline_at(rest);
+    while 0 < rest.len() {
+        let line = text_pieces::first_line(rest);
+        let len = line.len;
+        let taken = line.taken;
+        let read = plan_lines::grow(reading, &rest[0..len]);
+        reading = answer_whole(read, len < taken);
+        any = taken <= len;
+        rest = &rest[taken..];
     }
-    Lines {
-        reading: plan_lines::grow(reading, rest),
-        any: any | (0 < rest.len()),
-    }
+    Lines { reading, any }
 }
 
 fn from_input() {
@@ -139,17 +161,15 @@ fn from_input() {
 
 fn main() {
     let count = os::arg_count();
-    if count == 1 {
-        from_input();
-        return;
+    match count {
+        1 => from_input(),
+        3 => from_arguments(),
+        _ => {
+            say_refusal(UNREADABLE);
+            io::write_all(
+                STDERR_FILENO,
+                b"plan: give a start and a goal, twenty hex digits each, in the order 04 05 06 0c 0d 0e 5c 70 71 72; or lines START<tab>GOAL on standard input\n",
+            );
+        }
     }
-    if count == 3 {
-        from_arguments();
-        return;
-    }
-    say_refusal(7);
-    io::write_all(
-        STDERR_FILENO,
-        b"plan: give a start and a goal, twenty hex digits each, in the order 04 05 06 0c 0d 0e 5c 70 71 72; or lines START<tab>GOAL on standard input\n",
-    );
 }

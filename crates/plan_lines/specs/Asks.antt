@@ -55,3 +55,8 @@ takenAll r (b ∷ part) = takenAll (taken r b) part
 -- The reading is that of this text.
 abbrev pub Holds : Reading → (text : List ℕ) → Type 0
 Holds r text = r ≡ takenAll begun text
+
+-- it is that of some text: `begin` and `grow` give no other
+pub record Said (r : Reading) : Type 0 where
+  pub text : List ℕ
+  pub holds : Holds r text

@@ -7,7 +7,7 @@ ghost use lib.ListN.{length};
 ghost use Rattle.text.specs.Text.{Wrote};
 ghost use Rattle.text_answers.specs.Answers.{refusedLine};
 ghost use Rattle.planner_promise.specs.Promise.{refusalOf, countOf};
-ghost use Rattle.plan_lines.specs.Asks.{byteTaken, digitTaken, withDigit, taken, lineRefusal, Holds};
+ghost use Rattle.plan_lines.specs.Asks.{byteTaken, digitTaken, withDigit, taken, lineRefusal, Holds, Said};
 ghost use Rattle.plan_lines.specs.Told.{writeText, pairsText, planLine, plannedText, Tells};
 use device_rules::Answer;
 use planner_promise::Planned;
@@ -56,7 +56,7 @@ fn digit_taken(mut f: Field, d: u8) -> Field
 
 // Before the first byte of a line.
 pub fn begin() -> Reading
-    ensures { λ r. ⌜ Holds r [] ⌝ }
+    ensures { λ r. ⌜ Holds r [] × Said r ⌝ }
 {
     let none = [0u8; 10];
     let empty = Field {
@@ -120,7 +120,8 @@ fn take(mut r: Reading, b: u8) -> Reading
 
 // The reading with these bytes more.
 pub fn grow(r: Reading, part: &[u8]) -> Reading
-    ensures { λ y. ⌜ ((text : List ℕ) → Holds r text → Holds y (text ++ now (part .entry))) ⌝ }
+    requires { ⌜ Said r ⌝ }
+    ensures { λ y. ⌜ ((text : List ℕ) → Holds r text → Holds y (text ++ now (part .entry))) × Said y ⌝ }
 {
     let mut reading = r;
     let mut i = 0;
@@ -223,7 +224,7 @@ fn put_planned(out: &mut [u8], at: usize, planned: Planned, pairs: &[u8]) -> Tol
 
 // The whole line's answer, written from at on.
 pub fn answer(r: Reading, out: &mut [u8], at: usize) -> Told
-    requires { ⌜ at + 85 ≤ length (now out) ⌝ }
+    requires { ⌜ Said r × (at + 85 ≤ length (now out)) ⌝ }
     ensures { λ t. ⌜ ((line : List ℕ) → Holds r line → Tells line (now (out .entry)) at (t .end) (t .refusal) (now (out .exit))) × (t .end ≤ at + 85) ⌝ }
 {
     let number = line_refusal(r);

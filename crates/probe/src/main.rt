@@ -24,19 +24,23 @@ fn answer_piece(line: Line, piece: &[u8], out: &mut [u8]) -> Line
 {
     let mut begun = line;
     let mut rest = piece;
-    let mut newline = text_pieces::newline_at(rest);
     let mut end = 0;
-    while newline < rest.len() {
-        let whole = probe_images::grow(begun, &rest[0..newline]);
+    while 0 < rest.len() {
+        let first = text_pieces::first_line(rest);
+        let len = first.len;
+        let taken = first.taken;
+        begun = probe_images::grow(begun, &rest[0..len]);
+        if taken <= len {
+            io::write_all(STDOUT_FILENO, &out[0..end]);
+            return begun;
+        }
         let at = make_room(&*out, end);
-        end = probe_images::answer(whole, out, at);
+        end = probe_images::answer(begun, out, at);
         begun = probe_images::begin();
-        let next = newline + 1;
-        rest = &rest[next..];
-        newline = text_pieces::newline_at(rest);
+        rest = &rest[taken..];
     }
     io::write_all(STDOUT_FILENO, &out[0..end]);
-    probe_images::grow(begun, rest)
+    begun
 }
 
 // A last line without newline counts if it holds a byte.

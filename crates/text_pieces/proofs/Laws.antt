@@ -5,13 +5,13 @@ use mathlib.Core.List.{List, [], _∷_, _++_}
 use Prim.Native.Nat.{ℕ, zero, suc, _+_, _-_, _<_, _≤_, min}
 use native.Mathlib.Numerals.{add-one}
 use native.Mathlib.Omega.{arith}
-use borrow.Author.Tests.{eq-eqb, ne-eqb, ltb-true, ltb-false}
+use borrow.Author.Tests.{eq-eqb, ne-eqb, lt-ltb, le-ltb, ltb-true, ltb-false}
 use lib.Dec.{ltb}
-use lib.ListN.{length, take, drop, getD, length-append, take-append-drop}
+use lib.ListN.{length, take, drop, getD, length-append, length-drop, take-append-drop}
 use lib.Seq.{drop-cons, take-all, take-at, drop-at, take-append-add, length-take-le, sets-eq}
 use Rattle.text.specs.Text.{Wrote}
 use Rattle.text.proofs.Laws.{wrote-as, wrote-length}
-use Rattle.text_pieces.specs.Pieces.{newlineAt, Kept}
+use Rattle.text_pieces.specs.Pieces.{newlineAt, takenOf, First, Kept}
 
 -- a newline that is sought from i on: it is there, or is sought from the next place on
 module _ (piece : List ℕ) (n i : ℕ) (sought : n ≡ i + newlineAt (drop i piece)) (inside : i < length piece) where
@@ -39,6 +39,39 @@ module _ (piece : List ℕ) (n i : ℕ) (sought : n ≡ i + newlineAt (drop i pi
 
     pub newline-three-later : (getD piece (i + 2) 0 ≡ 0x0a → ⊥) → n ≡ i + 3 + newlineAt (drop (i + 3) piece)
     newline-three-later = newline-later piece n (i + 2) newline-two-later (omega arith) (i + 3) (omega arith)
+
+-- a line that ends in the piece, and one that does not
+module _ (piece : List ℕ) (n : ℕ) (stands : n ≡ newlineAt piece) (within : n ≤ length piece) where
+  pub first-ended : n < length piece → First piece n (n + 1)
+  unfolding takenOf
+  first-ended h = record {
+    ends = stands;
+    takes = rw (sym stands, lt-ltb n (length piece) h);
+    inside = within;
+    within = omega arith;
+    some = λ l. omega arith;
+    unended = λ l. omega arith;
+    ended = λ l. h;
+  }
+
+  pub first-unended : length piece ≤ n → First piece n n
+  unfolding takenOf
+  first-unended h = record {
+    ends = stands;
+    takes = rw (sym stands, le-ltb n (length piece) h) (omega arith);
+    inside = within;
+    within = within;
+    some = λ l. omega arith;
+    unended = λ l. h;
+    ended = λ l. omega arith;
+  }
+
+-- what follows a first line is shorter
+pub rest-less : {piece : List ℕ} {len taken : ℕ} → First piece len taken → 0 < length piece → length (take (length piece - taken) (drop taken piece)) < length piece
+rest-less {piece} {len} {taken} f h =
+    let l : length (take (length piece - taken) (drop taken piece)) ≡ length piece - taken =
+    length-take-le (length piece - taken) (drop taken piece) (omega (arith, length-drop taken piece)) in
+    omega (arith, f .some h, f .within)
 
 take-least : (n : ℕ) (s : List ℕ) → take (min n (length s)) s ≡ take n s
 take-least n s = go (ltb n (length s)) refl

@@ -2,7 +2,7 @@
 ghost use mathlib.Core.Path.{_≡_};
 ghost use Prim.Native.Nat.{_+_, _≤_, min};
 ghost use lib.ListN.{length, drop};
-ghost use Rattle.text_pieces.specs.Pieces.{newlineAt, Kept};
+ghost use Rattle.text_pieces.specs.Pieces.{newlineAt, First, Kept};
 
 // Where the first newline from a place on stands, or the length.
 fn newline_from(piece: &[u8], from: usize) -> usize
@@ -40,6 +40,26 @@ pub fn newline_at(piece: &[u8]) -> usize
         i += 4;
     }
     newline_from(piece, i)
+}
+
+// The first line of a piece: how many bytes of it are there, and how many the piece gives up for it.
+pub struct Line {
+    pub len: usize,
+    pub taken: usize,
+}
+
+// Reads the first line of a piece, which takes its newline with it; a piece with no newline is all taken.
+pub fn first_line(piece: &[u8]) -> Line
+    ensures { λ l. ⌜ First (now (piece .entry)) (l .len) (l .taken) ⌝ }
+{
+    let len = newline_at(piece);
+    if len < piece.len() {
+        return Line {
+            len,
+            taken: len + 1,
+        };
+    }
+    Line { len, taken: len }
 }
 
 fn least(a: usize, b: usize) -> usize

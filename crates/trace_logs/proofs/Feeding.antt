@@ -9,13 +9,13 @@ use lib.Dec.{eqb, ltb}
 use lib.ListN.{length, getD, take, drop, length-take, length-drop}
 use Rattle.text.specs.Text.{Wrote}
 use Rattle.text.proofs.Laws.{wrote-as, wrote-both, wrote-nothing, wrote-length}
-use Rattle.text_pieces.specs.Pieces.{newlineAt}
+use Rattle.text_pieces.specs.Pieces.{newlineAt, takenOf}
 use Rattle.trace_lines.specs.Lines.{lineOf}
 use Rattle.trace_lines.proofs.Laws.{rest as tail}
 use Rattle.words_bus.specs.Packed.{partWord}
 use Rattle.trace_session.specs.Tracing.{Session, traced, sessionOf, Kept, Says}
 use Rattle.trace_session.proofs.Laws.{says-as, traced-short}
-use Rattle.trace_logs.specs.Pieces.{Reading, Given, readingOf, grown, answerOf, ended, andThen, given, takenOf, firstGiven, heldAfter, Gives, Ends}
+use Rattle.trace_logs.specs.Pieces.{Reading, Given, readingOf, grown, answerOf, ended, andThen, given, firstGiven, heldAfter, Gives, Ends}
 use Rattle.trace_logs.proofs.Laws.{given-first, overlaid-nothing, line-take, end-none, end-line}
 
 -- the first line of a piece, or all of it

@@ -9,10 +9,10 @@ use borrow.Author.Tests.{eq-eqb, ne-eqb, lt-ltb, le-ltb, ltb-true, ltb-false}
 use lib.Dec.{eqb, ltb, leb·suc-suc}
 use lib.ListN.{length, take, drop, length-take, take-append-drop, drop-of-length-le}
 use lib.Seq.{drop-length, take-all, length-take-le}
-use Rattle.text_pieces.specs.Pieces.{newlineAt}
+use Rattle.text_pieces.specs.Pieces.{newlineAt, takenOf}
 use Rattle.text_pieces.proofs.Laws.{take-again}
 use Rattle.trace_lines.specs.Lines.{lineOf}
-use Rattle.trace_logs.specs.Pieces.{Reading, Given, grown, ended, andThen, given, takenOf, firstGiven, overlaid, heldAtEnd, heldAfter, atEnd}
+use Rattle.trace_logs.specs.Pieces.{Reading, Given, grown, ended, andThen, given, firstGiven, overlaid, heldAtEnd, heldAfter, atEnd}
 
 grown-twice : (r : Reading) (s t : List ℕ) → grown (grown r s) t ≡ grown r (s ++ t)
 grown-twice r s t =

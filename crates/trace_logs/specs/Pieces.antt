@@ -50,10 +50,6 @@ given r [] = record { text = []; after = r }
 given r (b ∷ piece) = cond (eqb b 0x0a) (andThen (ended r .text) (given (ended r .after) piece)) (given (grown r (b ∷ [])) piece)
 
 -- the same by lines
--- how much of a piece its first line takes, with its newline
-unfoldable pub takenOf : List ℕ → ℕ
-takenOf piece = cond (ltb (newlineAt piece) (length piece)) (newlineAt piece + 1) (length piece)
-
 -- what the first line of a piece gives, or all of a piece with no newline
 unfoldable pub firstGiven : Reading → (piece : List ℕ) → Given
 firstGiven r piece =

@@ -6,7 +6,8 @@ ghost use lib.ListN.{length, drop};
 ghost use Rattle.text.specs.Text.{Wrote};
 ghost use Rattle.trace_session.specs.Tracing.{Kept, Says};
 ghost use Rattle.trace_logs.specs.Logs.{header};
-ghost use Rattle.trace_logs.specs.Pieces.{readingOf, opened, grown, answerOf, given, takenOf, firstGiven, overlaid, heldAtEnd, heldAfter, Gives, Ends};
+ghost use Rattle.text_pieces.specs.Pieces.{takenOf};
+ghost use Rattle.trace_logs.specs.Pieces.{readingOf, opened, grown, answerOf, given, firstGiven, overlaid, heldAtEnd, heldAfter, Gives, Ends};
 
 // How many bytes of the line that has begun are held, and where the answers end.
 pub struct Fed {
@@ -81,21 +82,19 @@ fn first_line(
         × (t .taken ≡ takenOf (now (piece .entry)))
         × (heldAfter (now (held .exit)) (t .len) [] (drop (t .taken) (now (piece .entry))) ≡ heldAfter (now (held .entry)) len [] (now (piece .entry))) ⌝ }
 {
-    let newline = text_pieces::newline_at(piece);
-    if piece.len() <= newline {
+    let line = text_pieces::first_line(piece);
+    let part = line.len;
+    let taken = line.taken;
+    if taken <= part {
         let all = grow(held, len, piece);
         return Took {
             len: all,
             end: at,
-            taken: newline,
+            taken,
         };
     }
-    let end = end_line(words, held, len, &piece[0..newline], out, at);
-    Took {
-        len: 0,
-        end,
-        taken: newline + 1,
-    }
+    let end = end_line(words, held, len, &piece[0..part], out, at);
+    Took { len: 0, end, taken }
 }
 
 // Every complete line of a piece is answered, each line's reader handing the rest onward; the answers are written from at on.

@@ -2,11 +2,12 @@
 use borrow.Author.Needs.{needs}
 use mathlib.Core.Path.{_≡_}
 use lib.ListN.{length}
+use Rattle.plan_lines.specs.Asks.{Said}
 use Rattle.plan.proofs.from_input.Statement.{statement}
 use Rattle.plan.proofs.from_input.Tie as tie
 
 abbrev Inv-loop : tie.InvT-loop
-Inv-loop piece₀ lines₀ turns₀ piece lines turns = 4096 ≡ length piece
+Inv-loop piece₀ lines₀ turns₀ piece lines turns = (4096 ≡ length piece) × Said (lines .reading)
 
 abbrev μ-loop : tie.MeasureT-loop
 μ-loop piece₀ lines₀ turns₀ piece lines turns = turns

@@ -2,10 +2,11 @@
 use borrow.Author.Needs.{needs}
 use native.Mathlib.Omega.{arith}
 use mathlib.Core.Path.{_≡_, refl, ap, sym, _∙_}
-use Prim.Native.Nat.{_+_, _-_, _≤_}
+use mathlib.Core.List.{List, _++_}
+use Prim.Native.Nat.{ℕ, _+_, _-_, _≤_}
 use lib.ListN.{length, drop}
 use lib.Seq.{drop-length}
-use Rattle.plan_lines.specs.Asks.{takenAll}
+use Rattle.plan_lines.specs.Asks.{takenAll, Holds}
 use Rattle.plan_lines.specs.declared.Reading.{Reading}
 use Rattle.plan_lines.proofs.Taken.{more-taken, grown-all}
 use Rattle.plan_lines.proofs.grow.Statement.{statement}
@@ -30,11 +31,13 @@ loop-again c =
     )
 
 returns : tie.Need-returns Inv-loop μ-loop
-returns c = λ text h.
+returns c =
     let l = c .before in
     let s = l .before .before in
     let e : l .loop .i ≡ length (s .args .part .now) = omega arith in
-    grown-all text (s .args .part .now) h (rw (e, drop-length) at (l .loop .inv .1))
+    let all : (text : List ℕ) → Holds (s .args .r) text → Holds (l .loop .reading) (text ++ s .args .part .now) =
+    λ text h. grown-all text (s .args .part .now) h (rw (e, drop-length) at (l .loop .inv .1)) in
+    (all, record { text = s .pre .text ++ s .args .part .now; holds = all (s .pre .text) (s .pre .holds) })
 
 pub grow-spec : {M : Type 1} → statement M
 grow-spec =

@@ -1,16 +1,17 @@
--- `probe::answer_piece`: each turn takes a line and its newline off the piece. Assumes nothing.
+-- `probe::answer_piece`: each turn takes a line off the piece, with its newline where that is there. Assumes nothing.
 use borrow.Author.Needs.{needs}
 use mathlib.Core.Path.{_≡_}
 use Prim.Native.Nat.{_≤_}
 use lib.ListN.{length}
+use Rattle.text_pieces.proofs.Laws.{rest-less}
 use Rattle.probe.proofs.answer_piece.Statement.{statement}
 use Rattle.probe.proofs.answer_piece.Tie as tie
 
 abbrev Inv-loop : tie.InvT-loop
-Inv-loop piece out₀ begun₀ rest₀ newline₀ end₀ out begun rest newline end = (length out ≡ length out₀) × (length rest ≤ length piece) × (newline ≤ length rest) × (end ≤ 65536) × (begun .len ≤ 360)
+Inv-loop piece out₀ begun₀ rest₀ end₀ out begun rest end = (length out ≡ length out₀) × (length rest ≤ length piece) × (end ≤ 65536) × (begun .len ≤ 360)
 
 abbrev μ-loop : tie.MeasureT-loop
-μ-loop piece out₀ begun₀ rest₀ newline₀ end₀ out begun rest newline end = length rest
+μ-loop piece out₀ begun₀ rest₀ end₀ out begun rest end = length rest
 
 pub answer-piece-spec : {M : Type 1} → statement M
 answer-piece-spec =
@@ -18,16 +19,8 @@ answer-piece-spec =
     (tie.spec
     Inv-loop
     μ-loop
-    (λ c κs. search needs)
-    (λ c. search needs)
-    (λ c. search needs)
-    (λ c. search needs)
     (λ c. search needs)
     (λ c κs. search needs)
-    (λ c κs. search needs)
-    (λ c κs. search needs)
-    (λ c κs. search needs)
-    (λ c. search needs)
     (λ c. search needs)
     (λ c. search needs)
     (λ c. search needs)
@@ -35,9 +28,20 @@ answer-piece-spec =
     (λ c. search needs)
     (λ c. search needs)
     (λ c. search needs)
+    (λ c κs. search needs)
     (λ c. search needs)
     (λ c. search needs)
     (λ c κs. search needs)
+    (λ c κs. search needs)
+    (λ c κs. search needs)
+    (λ c. search needs)
+    (λ c. search needs)
+    (λ c. search needs)
+    (λ c. search (needs, rest-less))
+    (λ c. search needs)
+    (λ c. search needs)
+    (λ c. search needs)
+    (λ c. search needs)
     (λ c κs. search needs)
     (λ c. search needs)
     (λ c. search needs))
