@@ -22,12 +22,15 @@ use Rattle.words_burst.specs.Burst.{Sent, eventAt, sentOf, one, Ran, end
 use Rattle.words_burst.proofs.Doing.{refused-same}
 
 -- an answer of one of the first four kinds is no refusal
-pub answered : (a : Answer) → OneOf (0 ∷ 1 ∷ 2 ∷ 3 ∷ []) (tagOf the-type a) → eqb (answerKind a) 4 ≡ false
-answered Nothing k = refl
-answered Ack k = refl
-answered Nak k = refl
-answered (Byte b) k = refl
-answered (Refused n) k = absurd (⊎-elim (λ e. omega arith) (⊎-elim (λ e. omega arith) (⊎-elim (λ e. omega arith) (λ e. omega arith))) k)
+no-refusal : (a : Answer) → OneOf (0 ∷ 1 ∷ 2 ∷ 3 ∷ []) (tagOf the-type a) → eqb (answerKind a) 4 ≡ false
+no-refusal Nothing k = refl
+no-refusal Ack k = refl
+no-refusal Nak k = refl
+no-refusal (Byte b) k = refl
+no-refusal (Refused n) k = absurd (⊎-elim (λ e. omega arith) (⊎-elim (λ e. omega arith) (⊎-elim (λ e. omega arith) (λ e. omega arith))) k)
+
+pub answered : {a b : Answer} → a ≡ b → OneOf (0 ∷ 1 ∷ 2 ∷ 3 ∷ []) (tagOf the-type a) → eqb (answerKind b) 4 ≡ false
+answered {a} e k = subst (λ (a : Answer). eqb (answerKind a) 4 ≡ false) e (no-refusal a k)
 
 -- ---- one event of a run
 module _ (p : Part) (s : State) (e : Sent) (es : List Sent) where
@@ -156,9 +159,11 @@ module _ (w₀ bytes : List ℕ) (asked : ℕ) (answers₀ : List ℕ) where
         count = omega arith
 
     -- a refused event
-    pub stop : i < asked → {w' : List ℕ} {n : ℕ} → Leaves 0 w' (Refused n) (one part24 (stateIn part24 w) (eventAt bytes i))
+    pub stop : i < asked → {w' : List ℕ} {a : Answer} {n : ℕ} → a ≡ Refused n → Leaves 0 w' a (one part24 (stateIn part24 w) (eventAt bytes i))
         → Left whole n w' answers₀ answers (i ∷ [])
-    stop h {w'} {n} l =
+    stop h {w'} {a} {n} e left =
+        let l : Leaves 0 w' (Refused n) (one part24 (stateIn part24 w) (eventAt bytes i)) =
+        subst (λ (a : Answer). Leaves 0 w' a (one part24 (stateIn part24 w) (eventAt bytes i))) e left in
         ends (ap (ran part24 (stateIn part24 w)) (first h) ∙ ran-stop part24 (stateIn part24 w) (eventAt bytes i) (sentOf bytes (i + 1) (asked - (i + 1))) (l .outcome))
         (l .packed) (refused-same w (d .packed) (eventAt bytes i) l)
 

@@ -1,14 +1,17 @@
 // Many events in one call, on words that are lent: the image is tested once.
 ghost use mathlib.Core.Path.{_≡_};
 ghost use Prim.Native.Nat.{_+_, _*_, _≤_};
+ghost use mathlib.Core.Bool.{false};
+ghost use lib.Dec.{eqb};
 ghost use lib.ListN.{length, set};
 ghost use Rattle.map.specs.Map.{part24};
 ghost use Rattle.device_rules.specs.Answers.{answerKind, answerByte};
-ghost use Rattle.words_bus.specs.Packed.{stateIn, Packed, Leaves};
-ghost use Rattle.words_burst.specs.Burst.{wordAt, sent, eventAt, sentOf, one, ran, twoOf, eight, Left, Bursts};
+ghost use Rattle.words_rows.specs.Rows.{Rowed};
+ghost use Rattle.words_bus.specs.Packed.{stateIn, answerAt, Packed, Leaves};
+ghost use Rattle.words_burst.specs.Burst.{wordAt, sent, eventAt, sentOf, one, ran, eight, Left, Bursts};
 use device_rules::Answer;
-use device_rules::BAD_ARGUMENT;
-use device_rules::BAD_KIND;
+use words_bus::WRONG_ARGUMENT;
+use words_bus::WRONG_KIND;
 
 // Refusals as a caller has them.
 const BROKEN: u32 = 3;
@@ -39,74 +42,63 @@ fn word_at(bytes: &[u8], at: usize) -> u32
 }
 
 // One event: its third word must be 0.
-fn one(words: &mut [u64; 28], kind: u32, arg: u32, third: u32) -> Answer
-    requires { ⌜ Packed 0 (now words) ⌝ }
-    ensures { λ a. ⌜ Leaves 0 (now (words .exit)) a (one part24 (stateIn part24 (now (words .entry))) (sent kind arg third)) ⌝ }
+fn one(words: &mut [u64; 28], rows: &[u32; 128], kind: u32, arg: u32, third: u32) -> u32
+    requires { ⌜ Packed 0 (now words) × Rowed part24 (now rows) ⌝ }
+    ensures { λ a. ⌜ Leaves 0 (now (words .exit)) (answerAt a) (one part24 (stateIn part24 (now (words .entry))) (sent kind arg third)) ⌝ }
 {
     if third == 0 {
-        return words_device::event(words, kind, arg as u64);
+        return words_device::event_by(words, rows, kind, arg as u64);
     }
     if LAST_KIND < kind {
-        return Answer::Refused(BAD_KIND);
+        return WRONG_KIND;
     }
-    Answer::Refused(BAD_ARGUMENT)
+    WRONG_ARGUMENT
 }
 
 // The event of number i.
-fn take(words: &mut [u64; 28], events: &[u8], i: usize) -> Answer
-    requires { ⌜ Packed 0 (now words) × (12 * i + 12 ≤ length (now events)) ⌝ }
-    ensures { λ a. ⌜ Leaves 0 (now (words .exit)) a (one part24 (stateIn part24 (now (words .entry))) (eventAt (now (events .entry)) i)) ⌝ }
+fn take(words: &mut [u64; 28], rows: &[u32; 128], events: &[u8], i: usize) -> u32
+    requires { ⌜ Packed 0 (now words) × Rowed part24 (now rows) × (12 * i + 12 ≤ length (now events)) ⌝ }
+    ensures { λ a. ⌜ Leaves 0 (now (words .exit)) (answerAt a) (one part24 (stateIn part24 (now (words .entry))) (eventAt (now (events .entry)) i)) ⌝ }
 {
     let kind = word_at(events, 12 * i);
     let arg = word_at(events, 12 * i + 4);
     let third = word_at(events, 12 * i + 8);
-    one(words, kind, arg, third)
+    one(words, rows, kind, arg, third)
 }
 
-// An answer's kind and the byte read.
-fn two_of(answer: Answer) -> [u8; 2]
-    ensures { λ r. ⌜ r ≡ twoOf answer ⌝ }
+// The answer of event number i, which is no refusal: its kind and the byte read.
+fn put(answers: &mut [u8], i: usize, number: u32)
+    requires { ⌜ (2 * i + 2 ≤ length (now answers)) × (eqb (answerKind (answerAt number)) 4 ≡ false) ⌝ }
+    ensures { λ r. ⌜ now (answers .exit) ≡ set (set (now (answers .entry)) (2 * i) (answerKind (answerAt number))) (2 * i + 1) (answerByte (answerAt number)) ⌝ }
 {
-    match answer {
-        Answer::Nothing => [0, 0],
-        Answer::Ack => [1, 0],
-        Answer::Nak => [2, 0],
-        Answer::Byte(b) => [3, b],
-        Answer::Refused(_) => [4, 0],
-    }
-}
-
-// The answer of event number i.
-fn put(answers: &mut [u8], i: usize, answer: Answer)
-    requires { ⌜ 2 * i + 2 ≤ length (now answers) ⌝ }
-    ensures { λ r. ⌜ now (answers .exit) ≡ set (set (now (answers .entry)) (2 * i) (answerKind answer)) (2 * i + 1) (answerByte answer) ⌝ }
-{
-    let two = two_of(answer);
-    answers[2 * i] = two[0];
-    answers[2 * i + 1] = two[1];
+    answers[2 * i] = (number % 256) as u8;
+    answers[2 * i + 1] = words_bus::byte_read(number);
 }
 
 // The events in order, until one is refused.
 fn run(
     words: &mut [u64; 28],
+    rows: &[u32; 128],
     events: &[u8],
     asked: usize,
     answers: &mut [u8],
     done: &mut [u64; 1],
 ) -> u32
-    requires { ⌜ Packed 0 (now words) × (12 * asked ≤ length (now events)) × (2 * asked ≤ length (now answers)) ⌝ }
+    requires { ⌜ Packed 0 (now words) × Rowed part24 (now rows) × (12 * asked ≤ length (now events)) × (2 * asked ≤ length (now answers)) ⌝ }
     ensures { λ r. ⌜ Left (ran part24 (stateIn part24 (now (words .entry))) (sentOf (now (events .entry)) 0 asked)) r
         (now (words .exit)) (now (answers .entry)) (now (answers .exit)) (now (done .exit)) ⌝ }
 {
     let mut i = 0;
     while i < asked {
-        let answer = take(words, events, i);
-        if let Answer::Refused(number) = answer {
-            *done = [i as u64];
-            return number as u32;
-        }
-        put(answers, i, answer);
-        i += 1;
+        let number = take(words, rows, events, i);
+        let answer = words_bus::answer(number);
+        let Answer::Refused(refusal) = answer else {
+            put(answers, i, number);
+            i += 1;
+            continue;
+        };
+        *done = [i as u64];
+        return refusal as u32;
     }
     *done = [asked as u64];
     0
@@ -150,5 +142,6 @@ pub fn burst24(
         *done = [0];
         return BROKEN;
     }
-    run(words, events, asked as usize, answers, done)
+    let rows = words_rows::rows24();
+    run(words, &rows, events, asked as usize, answers, done)
 }

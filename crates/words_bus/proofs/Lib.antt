@@ -2,4 +2,5 @@ pub mod Judging
 pub mod Left
 pub mod Resetting
 pub mod Standing
+pub mod Told
 pub mod Testing

@@ -10,6 +10,7 @@ ghost use Rattle.device_rules.specs.Device.Bus.{Opened, Chosen, Filling, Call};
 ghost use Rattle.device_rules.specs.Device.Event.{Stop, ByteSent, ByteFetched};
 ghost use Rattle.device_rules.specs.declared.Answer.the-variants.{Byte};
 ghost use Rattle.device_rules.specs.Refusals.{stepped};
+ghost use Rattle.device_rules.specs.Answers.{answerByte};
 ghost use Rattle.words.specs.Words.{partOf};
 ghost use Rattle.words_rows.specs.Rows.{rowAt};
 ghost use Rattle.words_bus.specs.Packed.{stateIn, answerAt, unionTo, resetWords, Packed, Standing, Leaves, Steps, Bounded, Limits};
@@ -66,9 +67,9 @@ const ACK: u32 = 1;
 
 const NAK: u32 = 2;
 
-const WRONG_KIND: u32 = 0x104;
+pub const WRONG_KIND: u32 = 0x104;
 
-const WRONG_ARGUMENT: u32 = 0x204;
+pub const WRONG_ARGUMENT: u32 = 0x204;
 
 const WRONG_IMAGE: u32 = 0x304;
 
@@ -92,6 +93,16 @@ pub fn answer(number: u32) -> Answer
         3 => Answer::Byte(value),
         _ => Answer::Refused(value),
     }
+}
+
+// The byte read, of an answer that is given as a number; else 0.
+pub fn byte_read(number: u32) -> u8
+    ensures { λ b. ⌜ b ≡ answerByte (answerAt number) ⌝ }
+{
+    if number % 256 == 3 {
+        return (number / 256 % 256) as u8;
+    }
+    0
 }
 
 // The bus goes to a state, with that answer.

@@ -7,8 +7,8 @@ ghost use Rattle.map.specs.Map.{part24};
 ghost use Rattle.device_rules.specs.Refusals.{stepped};
 ghost use Rattle.device_rules.specs.PowerOn.{powerOn};
 ghost use Rattle.words.specs.Words.{partOf};
-ghost use Rattle.words_rows.specs.Rows.{rowAt};
-ghost use Rattle.words_bus.specs.Packed.{stateIn, Packed, Leaves, Limits};
+ghost use Rattle.words_rows.specs.Rows.{rowAt, Rowed};
+ghost use Rattle.words_bus.specs.Packed.{stateIn, answerAt, Packed, Leaves, Limits};
 use device_rules::Answer;
 use map::DEBOUNCE_COUNT24;
 use map::DEBOUNCE_COUNT34;
@@ -97,4 +97,17 @@ pub fn event(words: &mut [u64; 28], kind: u32, arg: u64) -> Answer
     }
     let row = words_rows::row24((words[POINTER] % 128) as u8);
     words_bus::answer(words_bus::event(words, PINS24, row, kind, arg))
+}
+
+// The same with the rows lent, its answer as a number: what a loop calls.
+pub fn event_by(words: &mut [u64; 28], rows: &[u32; 128], kind: u32, arg: u64) -> u32
+    requires { ⌜ Packed 0 (now words) × Rowed part24 (now rows) ⌝ }
+    ensures { λ a. ⌜ Leaves 0 (now (words .exit)) (answerAt a) (stepped part24 (stateIn part24 (now (words .entry))) kind arg) ⌝ }
+{
+    if words_bus::is_command(&*words, kind) {
+        let wanted = rows[(arg % 128) as usize];
+        return words_bus::command(words, wanted, arg);
+    }
+    let row = rows[(words[POINTER] % 128) as usize];
+    words_bus::event(words, PINS24, row, kind, arg)
 }

@@ -5,6 +5,7 @@ use mathlib.Core.List.{List}
 use Prim.Native.Nat.{ℕ, _+_, _-_, _*_, _/_, _^_, _<_}
 use lib.Bits.{bitAnd}
 use lib.Dec.{eqb}
+use lib.ListN.{getD}
 use Rattle.map.specs.Map.{Part, kindAt, code, reserved, next, roomAt}
 use Rattle.words.specs.Words.{partOf, slotAt, digitAt, paired, strengthWord, Fit}
 
@@ -22,6 +23,10 @@ unfoldable pub rowAt : Part → ℕ → ℕ
 rowAt p n =
     cond (reserved p n) 0
     (ruleAt p n + slotAt p n * 2 ^ 4 + shiftAt p n * 2 ^ 9 + next p n * 2 ^ 15 + (2 ^ roomAt p n - 1) * 2 ^ 24)
+
+-- a table of all rows of a part
+abbrev pub Rowed : Part → (rows : List ℕ) → Type 0
+Rowed p rows = (n : ℕ) → n < 128 → getD rows n 0 ≡ rowAt p n
 
 -- the word that a row names, of whatever number it is
 abbrev pub wordIn : ℕ → ℕ

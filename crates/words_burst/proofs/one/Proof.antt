@@ -11,19 +11,19 @@ returns : tie.Need-returns
 returns c =
     let t = c .before .before in
     let a = t .before .args in
-    plain (a .words .now) (t .before .pre) (sent (a .kind) (a .arg) (a .third)) (t .if1 .taken) (c .event .ensures)
+    plain (a .words .now) (t .before .pre .0) (sent (a .kind) (a .arg) (a .third)) (t .if1 .taken) (c .event-by .ensures)
 
 returns-2 : tie.Need-returns-2
 returns-2 c =
     let s = c .before .before in
     let a = s .args in
-    not-plain (a .words .now) (s .pre) (sent (a .kind) (a .arg) (a .third)) (c .before .if1 .left) false (lt-leb _ _ (c .if2 .taken))
+    not-plain (a .words .now) (s .pre .0) (sent (a .kind) (a .arg) (a .third)) (c .before .if1 .left) false (lt-leb _ _ (c .if2 .taken))
 
 returns-3 : tie.Need-returns-3
 returns-3 c =
     let s = c .before .before in
     let a = s .args in
-    not-plain (a .words .now) (s .pre) (sent (a .kind) (a .arg) (a .third)) (c .before .if1 .left) true (le-leb _ _ (c .if2 .left))
+    not-plain (a .words .now) (s .pre .0) (sent (a .kind) (a .arg) (a .third)) (c .before .if1 .left) true (le-leb _ _ (c .if2 .left))
 
 pub one-spec : {M : Type 1} → statement M
 one-spec = tie.close (tie.spec (λ c κs. search needs) returns returns-2 returns-3)
