@@ -52,7 +52,7 @@ pub extern "C" fn ghixramel_step(
 ) -> u32
     ensures { λ r. ⌜ Told (now (words .entry)) kind argument r (now (words .exit)) (now (answer .entry)) (now (answer .exit)) ⌝ }
 {
-    let given = words_bus::answer(words_bus::step24(words, kind, argument));
+    let given = words_bus::answer(words_device::step24(words, kind, argument));
     host_words::tell(given, answer)
 }
 
@@ -61,7 +61,7 @@ pub extern "C" fn ghixramel_step(
 pub extern "C" fn ghixramel_drives(words: &[u64; 28], drives: &mut [u64; 2]) -> u32
     ensures { λ r. ⌜ Seen (now (words .entry)) drivesOf r (now (drives .entry)) (now (drives .exit)) ⌝ }
 {
-    if words_device::fits(words, 0) {
+    if words_fits::fits(words, 0) {
         let low = words_views::low(words, PINS24);
         let high = words_views::high(words);
         *drives = [low, high];
@@ -75,7 +75,7 @@ pub extern "C" fn ghixramel_drives(words: &[u64; 28], drives: &mut [u64; 2]) -> 
 pub extern "C" fn ghixramel_int(words: &[u64; 28], asserted: &mut [u8; 1]) -> u32
     ensures { λ r. ⌜ Seen (now (words .entry)) intOf r (now (asserted .entry)) (now (asserted .exit)) ⌝ }
 {
-    if words_device::fits(words, 0) {
+    if words_fits::fits(words, 0) {
         *asserted = [host_words::one_if(words_views::int(words))];
         return DONE;
     }
@@ -87,7 +87,7 @@ pub extern "C" fn ghixramel_int(words: &[u64; 28], asserted: &mut [u8; 1]) -> u3
 pub extern "C" fn ghixramel_show(words: &[u64; 28], number: u32, shown: &mut [u8; 1]) -> u32
     ensures { λ r. ⌜ Shown (now (words .entry)) number r (now (shown .entry)) (now (shown .exit)) ⌝ }
 {
-    if !words_device::fits(words, 0) {
+    if !words_fits::fits(words, 0) {
         return BAD_IMAGE;
     }
     if 127 < number {
@@ -134,7 +134,7 @@ pub extern "C" fn ghixramel_unpack(
     ensures { λ r. ⌜ ToImage (now (words .entry)) r (now (pins .entry)) (now (registers .entry)) (now (bus .entry))
         (now (pins .exit)) (now (registers .exit)) (now (bus .exit)) ⌝ }
 {
-    if !words_device::fits(words, 0) {
+    if !words_fits::fits(words, 0) {
         return BAD_IMAGE;
     }
     words_images::to_file(words, 0, registers);

@@ -138,7 +138,7 @@ pub fn burst24(
         *done = [0];
         return 0;
     }
-    if !words_device::fits(&*words, 0) {
+    if !words_fits::fits(&*words, 0) {
         *done = [0];
         return BROKEN;
     }

@@ -3,4 +3,3 @@ pub mod Left
 pub mod Resetting
 pub mod Standing
 pub mod Told
-pub mod Testing

@@ -1,10 +1,8 @@
-// The bus on words that are lent: every event with every refusal, for either part.
+// The bus on words that are packed: what every event does, for either part.
 ghost use mathlib.Core.Path.{_≡_};
 ghost use mathlib.Core.Bool.{true, false};
 ghost use Prim.Native.Nat.{ℕ, _-_, _/_, _%_, _^_};
-ghost use lib.Bits.{bitOr};
 ghost use lib.ListN.{getD, set};
-ghost use Rattle.bits.specs.Bits.{without};
 ghost use Rattle.device_rules.specs.Device.{out, byteIn, resetted, step as stepOf};
 ghost use Rattle.device_rules.specs.Device.Bus.{Opened, Chosen, Filling, Call};
 ghost use Rattle.device_rules.specs.Device.Event.{Stop, ByteSent, ByteFetched};
@@ -13,7 +11,7 @@ ghost use Rattle.device_rules.specs.Refusals.{stepped};
 ghost use Rattle.device_rules.specs.Answers.{answerByte};
 ghost use Rattle.words.specs.Words.{partOf};
 ghost use Rattle.words_rows.specs.Rows.{rowAt};
-ghost use Rattle.words_bus.specs.Packed.{stateIn, answerAt, unionTo, resetWords, Packed, Standing, Leaves, Steps, Bounded, Limits};
+ghost use Rattle.words_bus.specs.Packed.{stateIn, answerAt, resetWords, Packed, Standing, Leaves};
 use device_rules::Answer;
 use device_rules::BYTE;
 use device_rules::FETCH;
@@ -21,24 +19,13 @@ use device_rules::LEVELS;
 use device_rules::RESET;
 use device_rules::START;
 use device_rules::STOP;
-use map::DEBOUNCE_COUNT24;
-use map::DEBOUNCE_COUNT34;
-use map::DEBOUNCED24;
-use map::DEBOUNCED34;
-use map::PINS24;
-use map::PINS34;
-use map::PORT_KINDS24;
-use map::PORT_KINDS34;
 use words::BUS;
 use words::CHOICE;
 use words::CONFIGURATION;
-use words::DEBOUNCE_COUNT;
-use words::DEBOUNCE_ENABLE;
 use words::MASK;
 use words::OUTPUT;
 use words::PART;
 use words::POINTER;
-use words::PORT_KIND;
 use words::PULL_SELECT;
 use words::STRENGTH_HIGH;
 use words::STRENGTH_LOW;
@@ -71,7 +58,7 @@ pub const WRONG_KIND: u32 = 0x104;
 
 pub const WRONG_ARGUMENT: u32 = 0x204;
 
-const WRONG_IMAGE: u32 = 0x304;
+pub const WRONG_IMAGE: u32 = 0x304;
 
 // A byte read.
 fn read(byte: u8) -> u32
@@ -248,59 +235,6 @@ fn stop(words: &mut [u64; 28], pins: u64) -> u32
     goes(words, IDLE, NOTHING)
 }
 
-// The bits that are set in some word of pins: the port kind among them, debounce not, which have limits of their own.
-fn union(words: &[u64; 28]) -> u64
-    ensures { λ s. ⌜ s ≡ unionTo (now (words .entry)) 16 ⌝ }
-{
-    let low = words[0] | words[1] | words[2] | words[3] | words[4] | words[5] | words[6];
-    let more = low | words[7] | words[8] | words[9] | words[10] | words[11] | words[12];
-    more | words[13] | words[14] | words[15] | words[16]
-}
-
-// What is set in the words of registers and pins, and does not exist.
-fn spare(words: &[u64; 28], pins: u64, kinds: u64, enables: u64, counts: u64) -> u64
-    ensures { λ s. ⌜ s ≡ bitOr (bitOr (bitOr (without (unionTo (now (words .entry)) 16) pins) (without (getD (now (words .entry)) 7 0) kinds))
-        (without (getD (now (words .entry)) 17 0) enables)) (without (getD (now (words .entry)) 18 0) counts) ⌝ }
-{
-    let any = union(words);
-    let kind = words[PORT_KIND];
-    let enable = words[DEBOUNCE_ENABLE];
-    let count = words[DEBOUNCE_COUNT];
-    (any ^ (any & pins))
-        | (kind ^ (kind & kinds))
-        | (enable ^ (enable & enables))
-        | (count ^ (count & counts))
-}
-
-// What is set in the other words, and may not be.
-fn odd(words: &[u64; 28]) -> u64
-    ensures { λ s. ⌜ s ≡ bitOr (bitOr (bitOr (bitOr (bitOr (bitOr (bitOr (getD (now (words .entry)) 21 0 / 2 ^ 7) (getD (now (words .entry)) 22 0 / 2 ^ 3))
-        (getD (now (words .entry)) 23 0 / 2 ^ 2)) (getD (now (words .entry)) 19 0)) (getD (now (words .entry)) 20 0)) (getD (now (words .entry)) 24 0))
-        (getD (now (words .entry)) 25 0)) (getD (now (words .entry)) 26 0) ⌝ }
-{
-    let small = (words[POINTER] >> 7) | (words[BUS] >> 3) | (words[CHOICE] >> 2);
-    small | words[19] | words[20] | words[24] | words[25] | words[26]
-}
-
-// Whether the words may stand, the pointer's register apart.
-pub fn bounded(
-    words: &[u64; 28],
-    pins: u64,
-    kinds: u64,
-    enables: u64,
-    counts: u64,
-    part: u64,
-) -> bool
-    ensures { λ r. ⌜ ((c : ℕ) → Limits c pins kinds enables counts → part ≡ c
-        → (r ≡ true → Bounded c (now (words .entry))) × (Bounded c (now (words .entry)) → r ≡ true)) ⌝ }
-{
-    let _count = words::counted(words);
-    if words[PART] != part {
-        return false;
-    }
-    spare(words, pins, kinds, enables, counts) | odd(words) == 0
-}
-
 // Whether the event is a command.
 pub fn is_command(words: &[u64; 28], kind: u32) -> bool
     ensures { λ r. ⌜ (r ≡ true → (kind ≡ 2) × (getD (now (words .entry)) 22 0 ≡ 2)) × (r ≡ false → kind ≡ 2 → getD (now (words .entry)) 22 0 ≡ 2 → ⊥) ⌝ }
@@ -358,54 +292,4 @@ pub fn event(words: &mut [u64; 28], pins: u64, row: u32, kind: u32, arg: u64) ->
         }
         _ => WRONG_KIND,
     }
-}
-
-// One event of the 24-pin part, whatever the words hold.
-pub fn step24(words: &mut [u64; 28], kind: u32, arg: u64) -> u32
-    ensures { λ a. ⌜ Steps 0 (now (words .entry)) (now (words .exit)) kind arg (answerAt a) ⌝ }
-{
-    if !bounded(
-        &*words,
-        PINS24,
-        PORT_KINDS24,
-        DEBOUNCED24,
-        DEBOUNCE_COUNT24,
-        0,
-    ) {
-        return WRONG_IMAGE;
-    }
-    let row = words_rows::row24((words[POINTER] % 128) as u8);
-    if row == 0 {
-        return WRONG_IMAGE;
-    }
-    if is_command(&*words, kind) {
-        let wanted = words_rows::row24((arg % 128) as u8);
-        return command(words, wanted, arg);
-    }
-    event(words, PINS24, row, kind, arg)
-}
-
-// And of its sister.
-fn step34(words: &mut [u64; 28], kind: u32, arg: u64) -> u32
-    ensures { λ a. ⌜ Steps 1 (now (words .entry)) (now (words .exit)) kind arg (answerAt a) ⌝ }
-{
-    if !bounded(
-        &*words,
-        PINS34,
-        PORT_KINDS34,
-        DEBOUNCED34,
-        DEBOUNCE_COUNT34,
-        1,
-    ) {
-        return WRONG_IMAGE;
-    }
-    let row = words_rows::row34((words[POINTER] % 128) as u8);
-    if row == 0 {
-        return WRONG_IMAGE;
-    }
-    if is_command(&*words, kind) {
-        let wanted = words_rows::row34((arg % 128) as u8);
-        return command(words, wanted, arg);
-    }
-    event(words, PINS34, row, kind, arg)
 }

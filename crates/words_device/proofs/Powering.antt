@@ -1,7 +1,7 @@
--- Power-on leaves the words of the part's defaults with these levels, and the limits of the part's words. Assumes nothing.
+-- Power-on leaves the words of the part's defaults with these levels. Assumes nothing.
 use mathlib.Core.Path.{_≡_, refl, ap}
 use mathlib.Core.List.{List}
-use Prim.Native.Nat.{ℕ, zero, suc, _^_, _<_}
+use Prim.Native.Nat.{ℕ, _^_, _<_}
 use native.Mathlib.Omega.{arith}
 use lib.ListN.{getD}
 use lib.Pow.{pow-pos}
@@ -12,26 +12,12 @@ use Rattle.registers.specs.Registers.{core}
 use Rattle.device_rules.specs.Device.{state, out}
 use Rattle.device_rules.specs.declared.Answer.the-variants.{Nothing}
 use Rattle.device_rules.specs.PowerOn.{powerOn}
-use Rattle.words.specs.Words.{wideOf, fileOf, withSets, Holds}
+use Rattle.words.specs.Words.{fileOf, withSets, Holds}
 use Rattle.words.proofs.Sound.{sound}
 use Rattle.words.proofs.Holding.{holds-sets}
-use Rattle.words_bus.specs.Packed.{resetWords, Packed, Leaves, Limits}
+use Rattle.words_bus.specs.Packed.{resetWords, Packed, Leaves}
 use Rattle.words_bus.proofs.Left.{unused-case, holds-left}
 use Rattle.words_bus.proofs.Resetting.{Defaults, by-part}
-
-pub limits24 : Limits 0 0xff_ffff 0x7 0xffff 0xff
-unfolding wideOf
-limits24 = record { pins-are = refl; kinds-are = refl; enables-are = refl; counts-are = refl }
-
-pub limits34 : Limits 1 0x3_ffff_ffff 0x1f 0xff_ffff 0
-unfolding wideOf
-limits34 = record { pins-are = refl; kinds-are = refl; enables-are = refl; counts-are = refl }
-
--- there are two parts
-pub no-part : (c : ℕ) → (c ≡ 0 → ⊥) → (c ≡ 1 → ⊥) → c < 2 → ⊥
-no-part zero a b h = a refl
-no-part (suc zero) a b h = b refl
-no-part (suc (suc c)) a b h = omega arith
 
 module _ (choice levels : ℕ) (hc : choice < 4) (hl : levels < 2 ^ 24) where
   d : Defaults 0 choice 0

@@ -1,14 +1,11 @@
-// The 24-pin device on words that are lent: made, and stepped where they are known to be packed.
+// The device on words that are lent: made; stepped with every refusal, whatever they hold, and where they are known to be packed without the test of refusal 3.
 ghost use mathlib.Core.Path.{_≡_};
-ghost use mathlib.Core.Bool.{true};
-ghost use Prim.Native.Nat.{ℕ, _%_, _^_, _<_};
-ghost use lib.ListN.{getD};
+ghost use Prim.Native.Nat.{_^_, _<_};
 ghost use Rattle.map.specs.Map.{part24};
 ghost use Rattle.device_rules.specs.Refusals.{stepped};
 ghost use Rattle.device_rules.specs.PowerOn.{powerOn};
-ghost use Rattle.words.specs.Words.{partOf};
-ghost use Rattle.words_rows.specs.Rows.{rowAt, Rowed};
-ghost use Rattle.words_bus.specs.Packed.{stateIn, answerAt, Packed, Leaves, Limits};
+ghost use Rattle.words_rows.specs.Rows.{Rowed};
+ghost use Rattle.words_bus.specs.Packed.{stateIn, answerAt, Packed, Leaves, Steps};
 use device_rules::Answer;
 use map::DEBOUNCE_COUNT24;
 use map::DEBOUNCE_COUNT34;
@@ -36,56 +33,6 @@ pub fn power_on(words: &mut [u64; 28], choice: u8, levels: u64)
     words::put_sets(words, quiet);
 }
 
-// Whether the words are the packing of a well-formed image of a part with these limits, the row of the register at the pointer given.
-fn packed(
-    words: &[u64; 28],
-    pins: u64,
-    kinds: u64,
-    enables: u64,
-    counts: u64,
-    part: u64,
-    row: u32,
-) -> bool
-    ensures { λ r. ⌜ ((c : ℕ) → c < 2 → Limits c pins kinds enables counts → part ≡ c → row ≡ rowAt (partOf c) (getD (now (words .entry)) 21 0 % 128)
-        → (r ≡ true → Packed c (now (words .entry))) × (Packed c (now (words .entry)) → r ≡ true)) ⌝ }
-{
-    if !words_bus::bounded(words, pins, kinds, enables, counts, part) {
-        return false;
-    }
-    if row == 0 {
-        return false;
-    }
-    true
-}
-
-// Whether the words are the packing of a well-formed image of the part.
-pub fn fits(words: &[u64; 28], part: u64) -> bool
-    ensures { λ r. ⌜ (r ≡ true → Packed part (now (words .entry))) × (Packed part (now (words .entry)) → r ≡ true) ⌝ }
-{
-    let n = (words[POINTER] % 128) as u8;
-    match part {
-        0 => packed(
-            words,
-            PINS24,
-            PORT_KINDS24,
-            DEBOUNCED24,
-            DEBOUNCE_COUNT24,
-            0,
-            words_rows::row24(n),
-        ),
-        1 => packed(
-            words,
-            PINS34,
-            PORT_KINDS34,
-            DEBOUNCED34,
-            DEBOUNCE_COUNT34,
-            1,
-            words_rows::row34(n),
-        ),
-        _ => false,
-    }
-}
-
 // One event on words that are: nothing of refusal 3 is left to test.
 pub fn event(words: &mut [u64; 28], kind: u32, arg: u64) -> Answer
     requires { ⌜ Packed 0 (now words) ⌝ }
@@ -110,4 +57,54 @@ pub fn event_by(words: &mut [u64; 28], rows: &[u32; 128], kind: u32, arg: u64) -
     }
     let row = rows[(words[POINTER] % 128) as usize];
     words_bus::event(words, PINS24, row, kind, arg)
+}
+
+// One event of the 24-pin part, whatever the words hold.
+pub fn step24(words: &mut [u64; 28], kind: u32, arg: u64) -> u32
+    ensures { λ a. ⌜ Steps 0 (now (words .entry)) (now (words .exit)) kind arg (answerAt a) ⌝ }
+{
+    if !words_fits::bounded(
+        &*words,
+        PINS24,
+        PORT_KINDS24,
+        DEBOUNCED24,
+        DEBOUNCE_COUNT24,
+        0,
+    ) {
+        return words_bus::WRONG_IMAGE;
+    }
+    let row = words_rows::row24((words[POINTER] % 128) as u8);
+    if row == 0 {
+        return words_bus::WRONG_IMAGE;
+    }
+    if words_bus::is_command(&*words, kind) {
+        let wanted = words_rows::row24((arg % 128) as u8);
+        return words_bus::command(words, wanted, arg);
+    }
+    words_bus::event(words, PINS24, row, kind, arg)
+}
+
+// And of its sister.
+fn step34(words: &mut [u64; 28], kind: u32, arg: u64) -> u32
+    ensures { λ a. ⌜ Steps 1 (now (words .entry)) (now (words .exit)) kind arg (answerAt a) ⌝ }
+{
+    if !words_fits::bounded(
+        &*words,
+        PINS34,
+        PORT_KINDS34,
+        DEBOUNCED34,
+        DEBOUNCE_COUNT34,
+        1,
+    ) {
+        return words_bus::WRONG_IMAGE;
+    }
+    let row = words_rows::row34((words[POINTER] % 128) as u8);
+    if row == 0 {
+        return words_bus::WRONG_IMAGE;
+    }
+    if words_bus::is_command(&*words, kind) {
+        let wanted = words_rows::row34((arg % 128) as u8);
+        return words_bus::command(words, wanted, arg);
+    }
+    words_bus::event(words, PINS34, row, kind, arg)
 }

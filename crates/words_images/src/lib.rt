@@ -89,7 +89,7 @@ pub fn pack(
     if !stand_for(&fresh, part, file) {
         return false;
     }
-    if !words_device::fits(&fresh, part) {
+    if !words_fits::fits(&fresh, part) {
         return false;
     }
     *words = fresh;

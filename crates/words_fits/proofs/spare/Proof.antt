@@ -1,12 +1,12 @@
--- `words_bus::spare`: the code's own form. Assumes nothing.
+-- `words_fits::spare`: the code's own form. Assumes nothing.
 use borrow.Author.Needs.{needs}
 use mathlib.Core.Path.{ap}
 use Prim.Native.Nat.{ℕ}
 use lib.Bits.{bitOr}
 use lib.ListN.{getD}
 use Rattle.bits.specs.Bits.{without}
-use Rattle.words_bus.proofs.spare.Statement.{statement}
-use Rattle.words_bus.proofs.spare.Tie as tie
+use Rattle.words_fits.proofs.spare.Statement.{statement}
+use Rattle.words_fits.proofs.spare.Tie as tie
 
 returns : tie.Need-returns
 returns c =

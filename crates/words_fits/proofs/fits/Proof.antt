@@ -1,11 +1,11 @@
--- `words_device::fits`: each part with its own limits; there is no third (`no-part`). Assumes nothing.
+-- `words_fits::fits`: each part with its own limits; there is no third (`no-part`). Assumes nothing.
 use borrow.Author.Needs.{needs}
 use mathlib.Core.Path.{refl}
 use native.Mathlib.Omega.{arith}
 use Rattle.bits.proofs.Decide.{clash}
-use Rattle.words_device.proofs.Powering.{limits24, limits34, no-part}
-use Rattle.words_device.proofs.fits.Statement.{statement}
-use Rattle.words_device.proofs.fits.Tie as tie
+use Rattle.words_fits.proofs.Parts.{limits24, limits34, no-part}
+use Rattle.words_fits.proofs.fits.Statement.{statement}
+use Rattle.words_fits.proofs.fits.Tie as tie
 
 returns : tie.Need-returns
 returns c = rw (c .before .before .match .keys1) (c .packed .ensures 0 (omega arith) limits24 refl (c .before .row24 .ensures))

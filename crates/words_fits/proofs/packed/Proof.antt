@@ -1,11 +1,11 @@
--- `words_device::packed`: bounded words whose pointer has a row, and only those. Assumes nothing.
+-- `words_fits::packed`: bounded words whose pointer has a row, and only those. Assumes nothing.
 use borrow.Author.Needs.{needs}
 use mathlib.Core.Path.{refl}
 use borrow.Author.Tests.{not-true, not-false}
 use Rattle.bits.proofs.Decide.{clash}
 use Rattle.words_bus.proofs.Judging.{bounded-of, packed-of, no-row}
-use Rattle.words_device.proofs.packed.Statement.{statement}
-use Rattle.words_device.proofs.packed.Tie as tie
+use Rattle.words_fits.proofs.packed.Statement.{statement}
+use Rattle.words_fits.proofs.packed.Tie as tie
 
 returns : tie.Need-returns
 returns c =

@@ -1,13 +1,13 @@
--- `words_bus::bounded`: nothing that may not be set is (`tested`, `passes`). Assumes nothing.
+-- `words_fits::bounded`: nothing that may not be set is (`tested`, `passes`). Assumes nothing.
 use borrow.Author.Needs.{needs}
 use mathlib.Core.Path.{refl, sym, ap₂, _∙_}
 use mathlib.Core.Bool.{false}
 use lib.Bits.{bitOr}
 use borrow.Author.Tests.{eqb-true, eq-eqb}
 use Rattle.bits.proofs.Decide.{clash}
-use Rattle.words_bus.proofs.Testing.{tested, passes}
-use Rattle.words_bus.proofs.bounded.Statement.{statement}
-use Rattle.words_bus.proofs.bounded.Tie as tie
+use Rattle.words_fits.proofs.Testing.{tested, passes}
+use Rattle.words_fits.proofs.bounded.Statement.{statement}
+use Rattle.words_fits.proofs.bounded.Tie as tie
 
 returns : tie.Need-returns
 returns c = λ k lim e. (λ r. clash false r refl, λ b. absurd (c .if1 .taken (b .part-is ∙ sym e)))

@@ -1,33 +1,30 @@
--- `words_bus::step34`: refusal 3 of what is not packed, else a command or another event. Assumes nothing.
+-- `words_device::step34`: refusal 3 of what is not packed, else a command or another event. Assumes nothing.
 use borrow.Author.Needs.{needs}
 use mathlib.Core.Path.{refl, sym, ap}
 use Prim.Native.Nat.{ℕ}
 use native.Mathlib.Omega.{arith}
 use borrow.Author.Tests.{not-true, not-false}
 use Rattle.bits.proofs.Decide.{clash}
-use Rattle.words.specs.Words.{partOf, wideOf}
+use Rattle.words.specs.Words.{partOf}
 use Rattle.device_rules.specs.Refusals.{stepped}
-use Rattle.words_bus.specs.Packed.{Limits, stateIn}
+use Rattle.words_bus.specs.Packed.{stateIn}
 use Rattle.words_bus.proofs.Left.{by-rule}
 use Rattle.words_bus.proofs.Standing.{stands, its-pins}
 use Rattle.words_bus.proofs.Judging.{no-image, image, bounded-of, row-there, packed-of, no-row}
-use Rattle.words_bus.proofs.step34.Statement.{statement}
-use Rattle.words_bus.proofs.step34.Tie as tie
-
-limits : Limits 1 17179869183 31 16777215 0
-unfolding wideOf
-limits = record { pins-are = refl; kinds-are = refl; enables-are = refl; counts-are = refl }
+use Rattle.words_fits.proofs.Parts.{limits34}
+use Rattle.words_device.proofs.step34.Statement.{statement}
+use Rattle.words_device.proofs.step34.Tie as tie
 
 returns : tie.Need-returns
 returns c =
     let a = c .before .before .before .args in
-    no-image 1 (a .words .now) (a .kind) (a .arg) (λ k. clash _ (c .before .bounded .ensures 1 limits refl .1 (bounded-of 1 (a .words .now) k)) (not-true _ (c .if1 .taken)))
+    no-image 1 (a .words .now) (a .kind) (a .arg) (λ k. clash _ (c .before .bounded .ensures 1 limits34 refl .1 (bounded-of 1 (a .words .now) k)) (not-true _ (c .if1 .taken)))
 
 returns-2 : tie.Need-returns-2
 returns-2 c =
     let test = c .before .before .before in
     let a = test .before .before .before .args in
-    let b = test .before .bounded .ensures 1 limits refl .0 (not-false _ (test .if1 .left)) in
+    let b = test .before .bounded .ensures 1 limits34 refl .0 (not-false _ (test .if1 .left)) in
     no-image 1 (a .words .now) (a .kind) (a .arg) (no-row 1 (omega arith) (a .words .now) b _ (c .before .row34 .ensures) (c .if2 .taken))
 
 command-requires : tie.Need-command-requires
@@ -37,7 +34,7 @@ command-requires c κs =
     let found = known .before in
     let test = found .before .before in
     let a = test .before .before .before .args in
-    let b = test .before .bounded .ensures 1 limits refl .0 (not-false _ (test .if1 .left)) in
+    let b = test .before .bounded .ensures 1 limits34 refl .0 (not-false _ (test .if1 .left)) in
     let k = packed-of 1 (omega arith) (a .words .now) b _ (found .row34 .ensures) (known .if2 .left) in
     (stands 1 (a .words .now) k _ _ (c .before .row342 .ensures), which .is-command .ensures .0 (c .before .before .if3 .taken) .1)
 
@@ -48,7 +45,7 @@ returns-3 c =
     let found = known .before in
     let test = found .before .before in
     let a = test .before .before .before .args in
-    let b = test .before .bounded .ensures 1 limits refl .0 (not-false _ (test .if1 .left)) in
+    let b = test .before .bounded .ensures 1 limits34 refl .0 (not-false _ (test .if1 .left)) in
     let k = packed-of 1 (omega arith) (a .words .now) b _ (found .row34 .ensures) (known .if2 .left) in
     let yes = which .is-command .ensures .0 (c .before .before .before .if3 .taken) in
     image 1 (a .words .now) (a .kind) (a .arg) k
@@ -61,7 +58,7 @@ event-requires c κs =
     let found = known .before in
     let test = found .before .before in
     let a = test .before .before .before .args in
-    let b = test .before .bounded .ensures 1 limits refl .0 (not-false _ (test .if1 .left)) in
+    let b = test .before .bounded .ensures 1 limits34 refl .0 (not-false _ (test .if1 .left)) in
     let k = packed-of 1 (omega arith) (a .words .now) b _ (found .row34 .ensures) (known .if2 .left) in (
       stands 1 (a .words .now) k _ _ (row-there 1 (omega arith) (a .words .now) b _ (found .row34 .ensures)),
       its-pins 1 (a .words .now) k _ refl,
@@ -75,7 +72,7 @@ returns-4 c =
     let found = known .before in
     let test = found .before .before in
     let a = test .before .before .before .args in
-    let b = test .before .bounded .ensures 1 limits refl .0 (not-false _ (test .if1 .left)) in
+    let b = test .before .bounded .ensures 1 limits34 refl .0 (not-false _ (test .if1 .left)) in
     let k = packed-of 1 (omega arith) (a .words .now) b _ (found .row34 .ensures) (known .if2 .left) in
     image 1 (a .words .now) (a .kind) (a .arg) k
     (c .event .ensures 1 k refl (row-there 1 (omega arith) (a .words .now) b _ (found .row34 .ensures)) (which .is-command .ensures .1 (c .before .before .if3 .left)))

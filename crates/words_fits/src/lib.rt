@@ -1,0 +1,128 @@
+// Whether words are the packing of a well-formed image, as refusal 3 asks.
+ghost use mathlib.Core.Path.{_≡_};
+ghost use mathlib.Core.Bool.{true};
+ghost use Prim.Native.Nat.{ℕ, _/_, _%_, _^_, _<_};
+ghost use lib.Bits.{bitOr};
+ghost use lib.ListN.{getD};
+ghost use Rattle.bits.specs.Bits.{without};
+ghost use Rattle.words.specs.Words.{partOf};
+ghost use Rattle.words_rows.specs.Rows.{rowAt};
+ghost use Rattle.words_bus.specs.Packed.{unionTo, Packed, Bounded, Limits};
+use map::DEBOUNCE_COUNT24;
+use map::DEBOUNCE_COUNT34;
+use map::DEBOUNCED24;
+use map::DEBOUNCED34;
+use map::PINS24;
+use map::PINS34;
+use map::PORT_KINDS24;
+use map::PORT_KINDS34;
+use words::BUS;
+use words::CHOICE;
+use words::DEBOUNCE_COUNT;
+use words::DEBOUNCE_ENABLE;
+use words::PART;
+use words::POINTER;
+use words::PORT_KIND;
+
+// The bits that are set in some word of pins: the port kind among them, debounce not, which have limits of their own.
+fn union(words: &[u64; 28]) -> u64
+    ensures { λ s. ⌜ s ≡ unionTo (now (words .entry)) 16 ⌝ }
+{
+    let low = words[0] | words[1] | words[2] | words[3] | words[4] | words[5] | words[6];
+    let more = low | words[7] | words[8] | words[9] | words[10] | words[11] | words[12];
+    more | words[13] | words[14] | words[15] | words[16]
+}
+
+// What is set in the words of registers and pins, and does not exist.
+fn spare(words: &[u64; 28], pins: u64, kinds: u64, enables: u64, counts: u64) -> u64
+    ensures { λ s. ⌜ s ≡ bitOr (bitOr (bitOr (without (unionTo (now (words .entry)) 16) pins) (without (getD (now (words .entry)) 7 0) kinds))
+        (without (getD (now (words .entry)) 17 0) enables)) (without (getD (now (words .entry)) 18 0) counts) ⌝ }
+{
+    let any = union(words);
+    let kind = words[PORT_KIND];
+    let enable = words[DEBOUNCE_ENABLE];
+    let count = words[DEBOUNCE_COUNT];
+    (any ^ (any & pins))
+        | (kind ^ (kind & kinds))
+        | (enable ^ (enable & enables))
+        | (count ^ (count & counts))
+}
+
+// What is set in the other words, and may not be.
+fn odd(words: &[u64; 28]) -> u64
+    ensures { λ s. ⌜ s ≡ bitOr (bitOr (bitOr (bitOr (bitOr (bitOr (bitOr (getD (now (words .entry)) 21 0 / 2 ^ 7) (getD (now (words .entry)) 22 0 / 2 ^ 3))
+        (getD (now (words .entry)) 23 0 / 2 ^ 2)) (getD (now (words .entry)) 19 0)) (getD (now (words .entry)) 20 0)) (getD (now (words .entry)) 24 0))
+        (getD (now (words .entry)) 25 0)) (getD (now (words .entry)) 26 0) ⌝ }
+{
+    let small = (words[POINTER] >> 7) | (words[BUS] >> 3) | (words[CHOICE] >> 2);
+    small | words[19] | words[20] | words[24] | words[25] | words[26]
+}
+
+// Whether the words may stand, the pointer's register apart.
+pub fn bounded(
+    words: &[u64; 28],
+    pins: u64,
+    kinds: u64,
+    enables: u64,
+    counts: u64,
+    part: u64,
+) -> bool
+    ensures { λ r. ⌜ ((c : ℕ) → Limits c pins kinds enables counts → part ≡ c
+        → (r ≡ true → Bounded c (now (words .entry))) × (Bounded c (now (words .entry)) → r ≡ true)) ⌝ }
+{
+    let _count = words::counted(words);
+    if words[PART] != part {
+        return false;
+    }
+    spare(words, pins, kinds, enables, counts) | odd(words) == 0
+}
+
+// Whether the words are the packing of a well-formed image of a part with these limits, the row of the register at the pointer given.
+fn packed(
+    words: &[u64; 28],
+    pins: u64,
+    kinds: u64,
+    enables: u64,
+    counts: u64,
+    part: u64,
+    row: u32,
+) -> bool
+    ensures { λ r. ⌜ ((c : ℕ) → c < 2 → Limits c pins kinds enables counts → part ≡ c → row ≡ rowAt (partOf c) (getD (now (words .entry)) 21 0 % 128)
+        → (r ≡ true → Packed c (now (words .entry))) × (Packed c (now (words .entry)) → r ≡ true)) ⌝ }
+{
+    if !bounded(words, pins, kinds, enables, counts, part) {
+        return false;
+    }
+    if row == 0 {
+        return false;
+    }
+    true
+}
+
+// Whether the words are the packing of a well-formed image of the part.
+pub fn fits(words: &[u64; 28], part: u64) -> bool
+    ensures { λ r. ⌜ (r ≡ true → Packed part (now (words .entry))) × (Packed part (now (words .entry)) → r ≡ true) ⌝ }
+{
+    let n = (words[POINTER] % 128) as u8;
+    match part {
+        0 => packed(
+            words,
+            PINS24,
+            PORT_KINDS24,
+            DEBOUNCED24,
+            DEBOUNCE_COUNT24,
+            0,
+            words_rows::row24(n),
+        ),
+        1 => packed(
+            words,
+            PINS34,
+            PORT_KINDS34,
+            DEBOUNCED34,
+            DEBOUNCE_COUNT34,
+            1,
+            words_rows::row34(n),
+        ),
+        _ => false,
+    }
+}
