@@ -1,7 +1,8 @@
 -- The register map: one list of groups a part, from which all else is computed.
 use mathlib.Core.Bool.{Bool, true, false, cond, not, _&&_, _||_}
 use mathlib.Core.List.{List, [], _∷_}
-use Prim.Native.Nat.{ℕ, zero, suc, _+_, _-_, _*_, _%_, _^_, min}
+use mathlib.Core.Path.{_≡_}
+use Prim.Native.Nat.{ℕ, zero, suc, _+_, _-_, _*_, _%_, _^_, _<_, min}
 use lib.Dec.{leb, ltb, eqb}
 use lib.ListN.{getD}
 
@@ -131,6 +132,14 @@ reserved p n = not (ltb n 128) || eqb (code (kindAt p n)) (code Reserved)
 -- the next number of the group, from the last back to the first; a group of one stays
 unfoldable pub next : Part → ℕ → ℕ
 next p n = cond (eqb n (groupIn (p .groups) n .last)) (groupIn (p .groups) n .first) (n + 1)
+
+-- the group step as a table has it: the next number, 0 for a reserved one
+abbrev pub successor : Part → ℕ → ℕ
+successor p n = cond (reserved p n) 0 (next p n)
+
+-- a table of all successors of a part
+abbrev pub Stepping : Part → (table : List ℕ) → Type 0
+Stepping p table = (n : ℕ) → n < 128 → getD table n 0 ≡ successor p n
 
 -- whether the entries of such a group have a stored value
 abbrev pub stored : Kind → Bool

@@ -11,6 +11,8 @@ fn write_header() {
 fn main() {
     let mut piece = [0u8; 16384];
     let mut out = [0u8; 327_686];
+    let rows = words_rows::rows24();
+    let next = map::next24();
     let mut words = trace_logs::start();
     let mut held = [0u8; 33];
     let mut len = 0;
@@ -21,11 +23,20 @@ fn main() {
         let got = libc::read(0, &mut piece);
         let n = io::count(got, &piece);
         if n == 0 {
-            let end = trace_logs::finish(&mut words, &held, len, &mut out, 0);
+            let end = trace_logs::finish(&mut words, &rows, &next, &held, len, &mut out, 0);
             io::write_all(STDOUT_FILENO, &out[0..end]);
             return;
         }
-        let fed = trace_logs::feed(&mut words, &mut held, len, &piece[0..n], &mut out, 0);
+        let fed = trace_logs::feed(
+            &mut words,
+            &rows,
+            &next,
+            &mut held,
+            len,
+            &piece[0..n],
+            &mut out,
+            0,
+        );
         let end = fed.end;
         len = fed.len;
         io::write_all(STDOUT_FILENO, &out[0..end]);

@@ -3,6 +3,8 @@ ghost use mathlib.Core.Path.{_≡_};
 ghost use mathlib.Core.List.{List, []};
 ghost use Prim.Native.Nat.{ℕ, _+_, _*_, _≤_};
 ghost use lib.ListN.{length, drop};
+ghost use Rattle.map.specs.Map.{part24, Stepping};
+ghost use Rattle.words_rows.specs.Rows.{Rowed};
 ghost use Rattle.text.specs.Text.{Wrote};
 ghost use Rattle.trace_session.specs.Tracing.{Kept, Says};
 ghost use Rattle.trace_logs.specs.Logs.{header};
@@ -27,38 +29,42 @@ fn grow(held: &mut [u8; 33], len: usize, part: &[u8]) -> usize
 // The line that has begun ends with this part: its answer is written from at on.
 fn joined_line(
     words: &mut [u64; 28],
+    rows: &[u32; 128],
+    next: &[u8; 128],
     held: &mut [u8; 33],
     len: usize,
     part: &[u8],
     out: &mut [u8],
     at: usize,
 ) -> usize
-    requires { ⌜ Kept (now words) × (len ≤ 33) × (length (now held) ≡ 33) × (at + 26 ≤ length (now out)) ⌝ }
+    requires { ⌜ Kept (now words) × (len ≤ 33) × (length (now held) ≡ 33) × (at + 26 ≤ length (now out)) × Rowed part24 (now rows) × Stepping part24 (now next) ⌝ }
     ensures { λ end. ⌜ Says (answerOf (grown (readingOf (now (words .entry)) (now (held .entry)) len) (now (part .entry)))) (now (words .entry)) (now (out .entry)) at end (now (out .exit)) (now (words .exit))
         × (length (now (held .exit)) ≡ 33) × (now (held .exit) ≡ overlaid (now (held .entry)) len (now (part .entry))) ⌝ }
 {
     let all = grow(held, len, part);
     let bytes = *held;
-    trace_session::answer_line(words, &bytes[0..all], out, at)
+    trace_session::answer_line(words, rows, next, &bytes[0..all], out, at)
 }
 
 // The same; a line that lies whole in the piece is read where it lies.
 fn end_line(
     words: &mut [u64; 28],
+    rows: &[u32; 128],
+    next: &[u8; 128],
     held: &mut [u8; 33],
     len: usize,
     part: &[u8],
     out: &mut [u8],
     at: usize,
 ) -> usize
-    requires { ⌜ Kept (now words) × (len ≤ 33) × (length (now held) ≡ 33) × (at + 26 ≤ length (now out)) ⌝ }
+    requires { ⌜ Kept (now words) × (len ≤ 33) × (length (now held) ≡ 33) × (at + 26 ≤ length (now out)) × Rowed part24 (now rows) × Stepping part24 (now next) ⌝ }
     ensures { λ end. ⌜ Says (answerOf (grown (readingOf (now (words .entry)) (now (held .entry)) len) (now (part .entry)))) (now (words .entry)) (now (out .entry)) at end (now (out .exit)) (now (words .exit))
         × (length (now (held .exit)) ≡ 33) × (now (held .exit) ≡ heldAtEnd (now (held .entry)) len (now (part .entry))) ⌝ }
 {
     if len == 0 {
-        return trace_session::answer_line(words, part, out, at);
+        return trace_session::answer_line(words, rows, next, part, out, at);
     }
-    joined_line(words, held, len, part, out, at)
+    joined_line(words, rows, next, held, len, part, out, at)
 }
 
 // How many bytes are held after a line, where its answer ends, and how much of the piece it took.
@@ -71,13 +77,15 @@ struct Took {
 // The first line of a piece: its answer is written from at on. A piece with no newline is all carried on.
 fn first_line(
     words: &mut [u64; 28],
+    rows: &[u32; 128],
+    next: &[u8; 128],
     held: &mut [u8; 33],
     len: usize,
     piece: &[u8],
     out: &mut [u8],
     at: usize,
 ) -> Took
-    requires { ⌜ Kept (now words) × (len ≤ 33) × (length (now held) ≡ 33) × (at + 26 ≤ length (now out)) ⌝ }
+    requires { ⌜ Kept (now words) × (len ≤ 33) × (length (now held) ≡ 33) × (at + 26 ≤ length (now out)) × Rowed part24 (now rows) × Stepping part24 (now next) ⌝ }
     ensures { λ t. ⌜ Gives (firstGiven (readingOf (now (words .entry)) (now (held .entry)) len) (now (piece .entry))) (now (words .entry)) (now (out .entry)) at (t .end) (now (out .exit)) (now (words .exit)) (now (held .exit)) (t .len)
         × (t .taken ≡ takenOf (now (piece .entry)))
         × (heldAfter (now (held .exit)) (t .len) [] (drop (t .taken) (now (piece .entry))) ≡ heldAfter (now (held .entry)) len [] (now (piece .entry))) ⌝ }
@@ -93,20 +101,22 @@ fn first_line(
             taken,
         };
     }
-    let end = end_line(words, held, len, &piece[0..part], out, at);
+    let end = end_line(words, rows, next, held, len, &piece[0..part], out, at);
     Took { len: 0, end, taken }
 }
 
 // Every complete line of a piece is answered, each line's reader handing the rest onward; the answers are written from at on.
 pub fn feed(
     words: &mut [u64; 28],
+    rows: &[u32; 128],
+    next: &[u8; 128],
     held: &mut [u8; 33],
     len: usize,
     piece: &[u8],
     out: &mut [u8],
     at: usize,
 ) -> Fed
-    requires { ⌜ Kept (now words) × (len ≤ 33) × (length (now held) ≡ 33) × (at + 20 * length (now piece) + 6 ≤ length (now out)) ⌝ }
+    requires { ⌜ Kept (now words) × (len ≤ 33) × (length (now held) ≡ 33) × (at + 20 * length (now piece) + 6 ≤ length (now out)) × Rowed part24 (now rows) × Stepping part24 (now next) ⌝ }
     ensures { λ f. ⌜ Gives (given (readingOf (now (words .entry)) (now (held .entry)) len) (now (piece .entry))) (now (words .entry)) (now (out .entry)) at (f .end) (now (out .exit)) (now (words .exit)) (now (held .exit)) (f .len)
         × (f .end ≤ length (now (out .exit))) × (now (held .exit) ≡ heldAfter (now (held .entry)) len [] (now (piece .entry))) ⌝ }
 {
@@ -114,7 +124,7 @@ pub fn feed(
     let mut count = len;
     let mut end = at;
     while 0 < rest.len() {
-        let took = first_line(words, held, count, rest, out, end);
+        let took = first_line(words, rows, next, held, count, rest, out, end);
         let taken = took.taken;
         count = took.len;
         end = took.end;
@@ -141,13 +151,21 @@ pub fn put_header(out: &mut [u8], at: usize) -> usize
 }
 
 // The end of the log: a last line without newline is answered if it holds a byte. Says where the answer ends.
-pub fn finish(words: &mut [u64; 28], held: &[u8], len: usize, out: &mut [u8], at: usize) -> usize
-    requires { ⌜ Kept (now words) × (len ≤ length (now held)) × (at + 26 ≤ length (now out)) ⌝ }
+pub fn finish(
+    words: &mut [u64; 28],
+    rows: &[u32; 128],
+    next: &[u8; 128],
+    held: &[u8],
+    len: usize,
+    out: &mut [u8],
+    at: usize,
+) -> usize
+    requires { ⌜ Kept (now words) × (len ≤ length (now held)) × (at + 26 ≤ length (now out)) × Rowed part24 (now rows) × Stepping part24 (now next) ⌝ }
     ensures { λ end. ⌜ Ends (readingOf (now (words .entry)) (now (held .entry)) len) (now (words .entry)) (now (out .entry)) at end (now (out .exit)) (now (words .exit)) ⌝ }
 {
     let line = &held[0..len];
     if line.len() == 0 {
         return at;
     }
-    trace_session::answer_line(words, line, out, at)
+    trace_session::answer_line(words, rows, next, line, out, at)
 }

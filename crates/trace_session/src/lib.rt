@@ -1,7 +1,8 @@
 // The trace program's work: one line in, one line out, on words that the caller lends.
 ghost use Prim.Native.Nat.{_+_, _^_, _<_, _≤_};
 ghost use lib.ListN.{length};
-ghost use Rattle.map.specs.Map.{part24};
+ghost use Rattle.map.specs.Map.{part24, Stepping};
+ghost use Rattle.words_rows.specs.Rows.{Rowed};
 ghost use Rattle.device_rules.specs.Device.{out as outcome};
 ghost use Rattle.device_rules.specs.declared.Answer.the-variants.{Nothing};
 ghost use Rattle.device_rules.specs.PowerOn.{powerOn};
@@ -48,26 +49,41 @@ fn make(words: &mut [u64; 28], choice: u8, levels: u64, out: &mut [u8], at: usiz
 }
 
 // An event, on the device if there is one.
-fn event(words: &mut [u64; 28], kind: u32, arg: u64, out: &mut [u8], at: usize) -> usize
-    requires { ⌜ Kept (now words) × (at + 26 ≤ length (now out)) ⌝ }
+fn event(
+    words: &mut [u64; 28],
+    rows: &[u32; 128],
+    next: &[u8; 128],
+    kind: u32,
+    arg: u64,
+    out: &mut [u8],
+    at: usize,
+) -> usize
+    requires { ⌜ Kept (now words) × (at + 26 ≤ length (now out)) × Rowed part24 (now rows) × Stepping part24 (now next) ⌝ }
     ensures { λ end. ⌜ Says (traced (sessionOf (now (words .entry))) (Line.Event kind arg)) (now (words .entry)) (now (out .entry)) at end (now (out .exit)) (now (words .exit)) ⌝ }
 {
     if words[PART] == 0 {
-        let answer = words_device::event(words, kind, arg);
+        let answer = words_bus::answer(words_device::event_by(words, rows, next, kind, arg));
         return tell(&*words, answer, out, at);
     }
     refuse(out, at)
 }
 
 // One line, without its newline: its answer is written from at on; says where it ends.
-pub fn answer_line(words: &mut [u64; 28], line: &[u8], out: &mut [u8], at: usize) -> usize
-    requires { ⌜ Kept (now words) × (at + 26 ≤ length (now out)) ⌝ }
+pub fn answer_line(
+    words: &mut [u64; 28],
+    rows: &[u32; 128],
+    next: &[u8; 128],
+    line: &[u8],
+    out: &mut [u8],
+    at: usize,
+) -> usize
+    requires { ⌜ Kept (now words) × (at + 26 ≤ length (now out)) × Rowed part24 (now rows) × Stepping part24 (now next) ⌝ }
     ensures { λ end. ⌜ Says (traced (sessionOf (now (words .entry))) (lineOf (now (line .entry)))) (now (words .entry)) (now (out .entry)) at end (now (out .exit)) (now (words .exit)) ⌝ }
 {
     let said = trace_lines::read(line);
     match said {
         Line::Device { choice, levels } => make(words, choice, levels, out, at),
-        Line::Event { kind, arg } => event(words, kind, arg, out, at),
+        Line::Event { kind, arg } => event(words, rows, next, kind, arg, out, at),
         Line::Unreadable => refuse(out, at),
     }
 }

@@ -4,7 +4,7 @@ ghost use Prim.Native.Nat.{_+_, _*_, _≤_};
 ghost use mathlib.Core.Bool.{false};
 ghost use lib.Dec.{eqb};
 ghost use lib.ListN.{length, set};
-ghost use Rattle.map.specs.Map.{part24};
+ghost use Rattle.map.specs.Map.{part24, Stepping};
 ghost use Rattle.device_rules.specs.Answers.{answerKind, answerByte};
 ghost use Rattle.words_rows.specs.Rows.{Rowed};
 ghost use Rattle.words_bus.specs.Packed.{stateIn, answerAt, Packed, Leaves};
@@ -42,12 +42,19 @@ fn word_at(bytes: &[u8], at: usize) -> u32
 }
 
 // One event: its third word must be 0.
-fn one(words: &mut [u64; 28], rows: &[u32; 128], kind: u32, arg: u32, third: u32) -> u32
-    requires { ⌜ Packed 0 (now words) × Rowed part24 (now rows) ⌝ }
+fn one(
+    words: &mut [u64; 28],
+    rows: &[u32; 128],
+    next: &[u8; 128],
+    kind: u32,
+    arg: u32,
+    third: u32,
+) -> u32
+    requires { ⌜ Packed 0 (now words) × Rowed part24 (now rows) × Stepping part24 (now next) ⌝ }
     ensures { λ a. ⌜ Leaves 0 (now (words .exit)) (answerAt a) (one part24 (stateIn part24 (now (words .entry))) (sent kind arg third)) ⌝ }
 {
     if third == 0 {
-        return words_device::event_by(words, rows, kind, arg as u64);
+        return words_device::event_by(words, rows, next, kind, arg as u64);
     }
     if LAST_KIND < kind {
         return WRONG_KIND;
@@ -56,14 +63,14 @@ fn one(words: &mut [u64; 28], rows: &[u32; 128], kind: u32, arg: u32, third: u32
 }
 
 // The event of number i.
-fn take(words: &mut [u64; 28], rows: &[u32; 128], events: &[u8], i: usize) -> u32
-    requires { ⌜ Packed 0 (now words) × Rowed part24 (now rows) × (12 * i + 12 ≤ length (now events)) ⌝ }
+fn take(words: &mut [u64; 28], rows: &[u32; 128], next: &[u8; 128], events: &[u8], i: usize) -> u32
+    requires { ⌜ Packed 0 (now words) × Rowed part24 (now rows) × Stepping part24 (now next) × (12 * i + 12 ≤ length (now events)) ⌝ }
     ensures { λ a. ⌜ Leaves 0 (now (words .exit)) (answerAt a) (one part24 (stateIn part24 (now (words .entry))) (eventAt (now (events .entry)) i)) ⌝ }
 {
     let kind = word_at(events, 12 * i);
     let arg = word_at(events, 12 * i + 4);
     let third = word_at(events, 12 * i + 8);
-    one(words, rows, kind, arg, third)
+    one(words, rows, next, kind, arg, third)
 }
 
 // The answer of event number i, which is no refusal: its kind and the byte read.
@@ -79,18 +86,19 @@ fn put(answers: &mut [u8], i: usize, number: u32)
 fn run(
     words: &mut [u64; 28],
     rows: &[u32; 128],
+    next: &[u8; 128],
     events: &[u8],
     asked: usize,
     answers: &mut [u8],
     done: &mut [u64; 1],
 ) -> u32
-    requires { ⌜ Packed 0 (now words) × Rowed part24 (now rows) × (12 * asked ≤ length (now events)) × (2 * asked ≤ length (now answers)) ⌝ }
+    requires { ⌜ Packed 0 (now words) × Rowed part24 (now rows) × Stepping part24 (now next) × (12 * asked ≤ length (now events)) × (2 * asked ≤ length (now answers)) ⌝ }
     ensures { λ r. ⌜ Left (ran part24 (stateIn part24 (now (words .entry))) (sentOf (now (events .entry)) 0 asked)) r
         (now (words .exit)) (now (answers .entry)) (now (answers .exit)) (now (done .exit)) ⌝ }
 {
     let mut i = 0;
     while i < asked {
-        let number = take(words, rows, events, i);
+        let number = take(words, rows, next, events, i);
         let answer = words_bus::answer(number);
         let Answer::Refused(refusal) = answer else {
             put(answers, i, number);
@@ -143,5 +151,6 @@ pub fn burst24(
         return BROKEN;
     }
     let rows = words_rows::rows24();
-    run(words, &rows, events, asked as usize, answers, done)
+    let next = map::next24();
+    run(words, &rows, &next, events, asked as usize, answers, done)
 }

@@ -6,7 +6,7 @@ use Prim.Native.Nat.{ℕ, zero, suc, _-_, _/_, _%_, _^_, _<_}
 use lib.Bits.{bitOr}
 use lib.Dec.{eqb, ltb}
 use lib.ListN.{getD}
-use Rattle.map.specs.Map.{Part, reserved}
+use Rattle.map.specs.Map.{Part, reserved, successor}
 use Rattle.device_rules.specs.Device.{State, Outcome, state, out}
 use Rattle.device_rules.specs.declared.Answer.{Answer}
 use Rattle.device_rules.specs.declared.Answer.the-variants.{Nothing, Ack, Nak, Byte, Refused}
@@ -47,6 +47,10 @@ pub record Packed (c : ℕ) (w : List ℕ) : Type 0 where
 pub record Standing (row number : ℕ) (w : List ℕ) : Type 0 where
   pub packed : Packed (getD w partWord 0) w
   pub row-is : row ≡ rowAt (partOf (getD w partWord 0)) number
+
+-- the number that follows the pointer's in its group, of the part that the words name
+abbrev pub StepsTo : (after : ℕ) → List ℕ → Type 0
+StepsTo after w = after ≡ successor (partOf (getD w partWord 0)) (getD w pointerWord 0)
 
 -- an answer as one number: its kind, and from bit 8 on the byte read or the refusal's number
 abbrev pub answerAt : ℕ → Answer

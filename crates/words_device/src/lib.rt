@@ -1,7 +1,7 @@
 // The device on words that are lent: made; stepped with every refusal, whatever they hold, and where they are known to be packed without the test of refusal 3.
 ghost use mathlib.Core.Path.{_≡_};
 ghost use Prim.Native.Nat.{_^_, _<_};
-ghost use Rattle.map.specs.Map.{part24};
+ghost use Rattle.map.specs.Map.{part24, Stepping};
 ghost use Rattle.device_rules.specs.Refusals.{stepped};
 ghost use Rattle.device_rules.specs.PowerOn.{powerOn};
 ghost use Rattle.words_rows.specs.Rows.{Rowed};
@@ -43,20 +43,35 @@ pub fn event(words: &mut [u64; 28], kind: u32, arg: u64) -> Answer
         return words_bus::answer(words_bus::command(words, wanted, arg));
     }
     let row = words_rows::row24((words[POINTER] % 128) as u8);
-    words_bus::answer(words_bus::event(words, PINS24, row, kind, arg))
+    let after = words_rows::successor(row);
+    words_bus::answer(words_bus::event(words, PINS24, row, after, kind, arg))
 }
 
-// The same with the rows lent, its answer as a number: what a loop calls.
-pub fn event_by(words: &mut [u64; 28], rows: &[u32; 128], kind: u32, arg: u64) -> u32
-    requires { ⌜ Packed 0 (now words) × Rowed part24 (now rows) ⌝ }
+fn wide(byte: u8) -> u64
+    ensures { λ r. ⌜ r ≡ byte ⌝ }
+{
+    byte as u64
+}
+
+// The same with the part's tables lent, its answer as a number: what a loop calls.
+pub fn event_by(
+    words: &mut [u64; 28],
+    rows: &[u32; 128],
+    next: &[u8; 128],
+    kind: u32,
+    arg: u64,
+) -> u32
+    requires { ⌜ Packed 0 (now words) × Rowed part24 (now rows) × Stepping part24 (now next) ⌝ }
     ensures { λ a. ⌜ Leaves 0 (now (words .exit)) (answerAt a) (stepped part24 (stateIn part24 (now (words .entry))) kind arg) ⌝ }
 {
     if words_bus::is_command(&*words, kind) {
         let wanted = rows[(arg % 128) as usize];
         return words_bus::command(words, wanted, arg);
     }
-    let row = rows[(words[POINTER] % 128) as usize];
-    words_bus::event(words, PINS24, row, kind, arg)
+    let at = (words[POINTER] % 128) as usize;
+    let row = rows[at];
+    let after = wide(next[at]);
+    words_bus::event(words, PINS24, row, after, kind, arg)
 }
 
 // One event of the 24-pin part, whatever the words hold.
@@ -81,7 +96,8 @@ pub fn step24(words: &mut [u64; 28], kind: u32, arg: u64) -> u32
         let wanted = words_rows::row24((arg % 128) as u8);
         return words_bus::command(words, wanted, arg);
     }
-    words_bus::event(words, PINS24, row, kind, arg)
+    let after = words_rows::successor(row);
+    words_bus::event(words, PINS24, row, after, kind, arg)
 }
 
 // And of its sister.
@@ -106,5 +122,6 @@ fn step34(words: &mut [u64; 28], kind: u32, arg: u64) -> u32
         let wanted = words_rows::row34((arg % 128) as u8);
         return words_bus::command(words, wanted, arg);
     }
-    words_bus::event(words, PINS34, row, kind, arg)
+    let after = words_rows::successor(row);
+    words_bus::event(words, PINS34, row, after, kind, arg)
 }

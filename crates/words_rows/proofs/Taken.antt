@@ -8,7 +8,7 @@ use borrow.Author.Tests.{eqb-true, eqb-false, ne-eqb, ltb-true, lt-ltb, le-ltb}
 use lib.Bits.{bitAnd}
 use lib.Dec.{eqb, ltb}
 use Rattle.bits.proofs.Decide.{each, eachBool, clash}
-use Rattle.map.specs.Map.{Part, Kind, part24, part34, kindAt, code, stored, reserved, next, roomAt}
+use Rattle.map.specs.Map.{Part, Kind, part24, part34, kindAt, code, stored, reserved, next, successor, roomAt}
 use Rattle.map.specs.Map.Kind.{Reserved, Input, Status, InputStatus, Configuration, Latch, Mask, PortKind, Edge, Clear, Output, Polarity, PinKind, Stored}
 use Rattle.words.specs.Words.{partOf, slotAt, digitAt, paired}
 use Rattle.words.proofs.Moving.{still}
@@ -38,7 +38,7 @@ record Rows (p : Part) : Type 0 where
   pub inside : (n : ℕ) → n < 128 → ltb (wordIn (rowAt p n)) 19 ≡ true
   pub ports : (n : ℕ) → n < 128 → cond (paired (slotAt p n)) 0 (bitAnd (rowAt p n / 2 ^ 12) 7) ≡ cond (paired (slotAt p n)) 0 (digitAt p n)
   pub fourths : (n : ℕ) → n < 128 → cond (paired (slotAt p n)) (bitAnd (rowAt p n / 2 ^ 11) 15) 0 ≡ cond (paired (slotAt p n)) (digitAt p n) 0
-  pub successors : (n : ℕ) → n < 128 → cond (reserved p n) 0 (bitAnd (rowAt p n / 2 ^ 15) 127) ≡ cond (reserved p n) 0 (next p n)
+  pub successors : (n : ℕ) → n < 128 → bitAnd (rowAt p n / 2 ^ 15) 127 ≡ successor p n
   pub nexts : (n : ℕ) → n < 128 → cond (reserved p n) false (reserved p (next p n)) ≡ false
   pub existings : (n : ℕ) → n < 128 → cond (reserved p n) 0 (rowAt p n / 2 ^ 24) ≡ cond (reserved p n) 0 (2 ^ roomAt p n - 1)
   -- a rule says whether the register is kept in two words, whether it is stored, and whether it moves pins
@@ -105,6 +105,9 @@ module _ (row part n : ℕ) (hn : n < 128) (e : row ≡ rowAt (partOf part) n) w
   pub fourth-of : paired (slotAt (partOf part) n) ≡ true → bitAnd (row / 2 ^ 11) 15 ≡ digitAt (partOf part) n
   fourth-of two = ap (λ (r : ℕ). bitAnd (r / 2 ^ 11) 15) e ∙ rw two at (rows part .fourths n hn)
 
+  pub successor-of : bitAnd (row / 2 ^ 15) 127 ≡ successor (partOf part) n
+  successor-of = ap (λ (r : ℕ). bitAnd (r / 2 ^ 15) 127) e ∙ rows part .successors n hn
+
   -- the row of a number that is not reserved is not 0
   pub row-zero : eqb row 0 ≡ reserved (partOf part) n
   row-zero = ap (λ (r : ℕ). eqb r 0) e ∙ rows part .zeros n hn
@@ -117,9 +120,6 @@ module _ (row part n : ℕ) (known : reserved (partOf part) n ≡ false) (e : ro
       go : (t : Bool) → ltb n 128 ≡ t → n < 128
       go true q = ltb-true n 128 q
       go false q = clash (reserved (partOf part) n) (ap (λ (t : Bool). not t || eqb (code (kindAt (partOf part) n)) (code Reserved)) q) known
-
-  pub successor-of : bitAnd (row / 2 ^ 15) 127 ≡ next (partOf part) n
-  successor-of = ap (λ (r : ℕ). bitAnd (r / 2 ^ 15) 127) e ∙ rw known at (rows part .successors n known-small)
 
   -- the next number of a register's group is a register's too
   pub next-known : reserved (partOf part) (next (partOf part) n) ≡ false

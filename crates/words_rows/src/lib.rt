@@ -2,7 +2,7 @@
 ghost use mathlib.Core.Path.{_≡_};
 ghost use mathlib.Core.Bool.{false, true};
 ghost use Prim.Native.Nat.{ℕ, _-_, _^_, _<_};
-ghost use Rattle.map.specs.Map.{part24, part34, reserved, next, roomAt};
+ghost use Rattle.map.specs.Map.{part24, part34, reserved, successor, roomAt};
 ghost use Rattle.words.specs.Words.{partOf, slotAt, digitAt, paired};
 ghost use Rattle.words_rows.specs.Rows.{ruleAt, rowAt, wordIn, Rowed};
 
@@ -481,9 +481,9 @@ pub fn fourth(row: u32) -> u8
     ((row >> 11) & 15) as u8
 }
 
-// The next number of its group.
+// The next number of its group, as the part's table of successors has it.
 pub fn successor(row: u32) -> u64
-    ensures { λ r. ⌜ ((part n : ℕ) → reserved (partOf part) n ≡ false → row ≡ rowAt (partOf part) n → r ≡ next (partOf part) n) ⌝ }
+    ensures { λ r. ⌜ ((part n : ℕ) → n < 128 → row ≡ rowAt (partOf part) n → r ≡ successor (partOf part) n) ⌝ }
 {
     ((row >> 15) & 127) as u64
 }

@@ -7,10 +7,10 @@ use Rattle.trace_logs.proofs.feed.Statement.{statement}
 use Rattle.trace_logs.proofs.feed.Tie as tie
 
 abbrev Inv-loop : tie.InvT-loop
-Inv-loop words₀ held₀ len piece out₀ at rest₀ count₀ end₀ words held out rest count end = Onward words₀ held₀ len piece out₀ at out rest words held count end
+Inv-loop words₀ rows next held₀ len piece out₀ at rest₀ count₀ end₀ words held out rest count end = Onward words₀ held₀ len piece out₀ at out rest words held count end
 
 abbrev μ-loop : tie.MeasureT-loop
-μ-loop words₀ held₀ len piece out₀ at rest₀ count₀ end₀ words held out rest count end = length rest
+μ-loop words₀ rows next held₀ len piece out₀ at rest₀ count₀ end₀ words held out rest count end = length rest
 
 loop-holds : tie.Need-loop-holds Inv-loop μ-loop
 loop-holds c =
@@ -19,8 +19,10 @@ loop-holds c =
 
 first-line-requires : tie.Need-first-line-requires Inv-loop μ-loop
 first-line-requires c κs =
-    let here = c .before .before .before .before .loop .inv in
-    (here .kept, here .small, here .whole, omega (arith, here .room, c .before .before .before .loop-test .taken))
+    let l = c .before .before .before .before in
+    let here = l .loop .inv in
+    let s = l .before .before .before in
+    (here .kept, here .small, here .whole, omega (arith, here .room, c .before .before .before .loop-test .taken), s .pre .4, s .pre .5)
 
 sub-rest : tie.Need-sub-rest Inv-loop μ-loop
 sub-rest c =

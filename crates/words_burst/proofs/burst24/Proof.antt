@@ -24,19 +24,20 @@ returns-3 c =
 
 run-requires : tie.Need-run-requires
 run-requires c κs =
-    let r = c .before .before .before .before in
+    let n = c .before .before .before .before .before in
+    let r = n .before in
     let l = r .before in
     let f = l .before in
     let asked = f .before .before in
     let t = asked .before in
     let e = enough _ _ _ (sym (t .before .is-bad .ensures) ∙ t .if1 .left) in
-    (f .fits2 .ensures .0 (not-false _ (l .if3 .left)), r .rows24 .ensures, e .0, e .1)
+    (f .fits2 .ensures .0 (not-false _ (l .if3 .left)), r .rows24 .ensures, n .next24 .ensures, e .0, e .1)
 
 returns-4 : tie.Need-returns-4
 returns-4 c =
     let r = c .before .before in
-    let rows = r .before .before .before in
-    let l = rows .before .before .before in
+    let tables = r .before .before .before .before in
+    let l = tables .before .before .before .before in
     let f = l .before in
     let asked = f .before .before in
     let t = asked .before in
@@ -45,4 +46,4 @@ returns-4 c =
 pub burst24-spec : {M : Type 1} → statement M
 burst24-spec =
     tie.close
-    (tie.spec (λ c κs. search needs) returns returns-2 (λ c κs. search needs) returns-3 (λ c κs. search needs) run-requires (λ c. search needs) returns-4)
+    (tie.spec (λ c κs. search needs) returns returns-2 (λ c κs. search needs) returns-3 (λ c κs. search needs) (λ c κs. search needs) run-requires (λ c. search needs) returns-4)

@@ -3,13 +3,14 @@ use borrow.Author.Needs.{needs}
 use mathlib.Core.Path.{refl, sym, ap}
 use Prim.Native.Nat.{ℕ}
 use native.Mathlib.Omega.{arith}
+use lib.ListN.{getD}
 use borrow.Author.Tests.{not-true, not-false}
 use Rattle.bits.proofs.Decide.{clash}
 use Rattle.words.specs.Words.{partOf}
 use Rattle.device_rules.specs.Refusals.{stepped}
 use Rattle.words_bus.specs.Packed.{stateIn}
 use Rattle.words_bus.proofs.Left.{by-rule}
-use Rattle.words_bus.proofs.Standing.{stands, its-pins}
+use Rattle.words_bus.proofs.Standing.{stands, steps-to, its-pins}
 use Rattle.words_bus.proofs.Judging.{no-image, image, bounded-of, row-there, packed-of, no-row}
 use Rattle.words_fits.proofs.Parts.{limits24}
 use Rattle.words_device.proofs.step24.Statement.{statement}
@@ -53,29 +54,36 @@ returns-3 c =
 
 event-requires : tie.Need-event-requires
 event-requires c κs =
-    let which = c .before .before in
+    let next = c .before in
+    let else = next .before in
+    let which = else .before in
     let known = which .before .before in
     let found = known .before in
     let test = found .before .before in
     let a = test .before .before .before .args in
+    let w = a .words .now in
     let b = test .before .bounded .ensures 0 limits24 refl .0 (not-false _ (test .if1 .left)) in
-    let k = packed-of 0 (omega arith) (a .words .now) b _ (found .row24 .ensures) (known .if2 .left) in (
-      stands 0 (a .words .now) k _ _ (row-there 0 (omega arith) (a .words .now) b _ (found .row24 .ensures)),
-      its-pins 0 (a .words .now) k _ refl,
-      which .is-command .ensures .1 (c .before .if3 .left),
+    let k = packed-of 0 (omega arith) w b _ (found .row24 .ensures) (known .if2 .left) in
+    let e = row-there 0 (omega arith) w b _ (found .row24 .ensures) in (
+      stands 0 w k _ _ e,
+      steps-to 0 w k _ (next .successor .ensures 0 (getD w 21 0) (b .pointer-small) e),
+      its-pins 0 w k _ refl,
+      which .is-command .ensures .1 (else .if3 .left),
     )
 
 returns-4 : tie.Need-returns-4
 returns-4 c =
-    let which = c .before .before .before in
+    let else = c .before .before .before in
+    let which = else .before in
     let known = which .before .before in
     let found = known .before in
     let test = found .before .before in
     let a = test .before .before .before .args in
+    let w = a .words .now in
     let b = test .before .bounded .ensures 0 limits24 refl .0 (not-false _ (test .if1 .left)) in
-    let k = packed-of 0 (omega arith) (a .words .now) b _ (found .row24 .ensures) (known .if2 .left) in
-    image 0 (a .words .now) (a .kind) (a .arg) k
-    (c .event .ensures 0 k refl (row-there 0 (omega arith) (a .words .now) b _ (found .row24 .ensures)) (which .is-command .ensures .1 (c .before .before .if3 .left)))
+    let k = packed-of 0 (omega arith) w b _ (found .row24 .ensures) (known .if2 .left) in
+    image 0 w (a .kind) (a .arg) k
+    (c .event .ensures 0 k refl (row-there 0 (omega arith) w b _ (found .row24 .ensures)) (which .is-command .ensures .1 (else .if3 .left)))
 
 pub step24-spec : {M : Type 1} → statement M
 step24-spec =
@@ -92,5 +100,6 @@ step24-spec =
     (λ c κs. search needs)
     command-requires
     returns-3
+    (λ c κs. search needs)
     event-requires
     returns-4)

@@ -3,13 +3,14 @@ use borrow.Author.Needs.{needs}
 use mathlib.Core.Path.{refl, sym, ap}
 use Prim.Native.Nat.{ℕ}
 use native.Mathlib.Omega.{arith}
+use lib.ListN.{getD}
 use borrow.Author.Tests.{not-true, not-false}
 use Rattle.bits.proofs.Decide.{clash}
 use Rattle.words.specs.Words.{partOf}
 use Rattle.device_rules.specs.Refusals.{stepped}
 use Rattle.words_bus.specs.Packed.{stateIn}
 use Rattle.words_bus.proofs.Left.{by-rule}
-use Rattle.words_bus.proofs.Standing.{stands, its-pins}
+use Rattle.words_bus.proofs.Standing.{stands, steps-to, its-pins}
 use Rattle.words_bus.proofs.Judging.{no-image, image, bounded-of, row-there, packed-of, no-row}
 use Rattle.words_fits.proofs.Parts.{limits34}
 use Rattle.words_device.proofs.step34.Statement.{statement}
@@ -53,29 +54,36 @@ returns-3 c =
 
 event-requires : tie.Need-event-requires
 event-requires c κs =
-    let which = c .before .before in
+    let next = c .before in
+    let else = next .before in
+    let which = else .before in
     let known = which .before .before in
     let found = known .before in
     let test = found .before .before in
     let a = test .before .before .before .args in
+    let w = a .words .now in
     let b = test .before .bounded .ensures 1 limits34 refl .0 (not-false _ (test .if1 .left)) in
-    let k = packed-of 1 (omega arith) (a .words .now) b _ (found .row34 .ensures) (known .if2 .left) in (
-      stands 1 (a .words .now) k _ _ (row-there 1 (omega arith) (a .words .now) b _ (found .row34 .ensures)),
-      its-pins 1 (a .words .now) k _ refl,
-      which .is-command .ensures .1 (c .before .if3 .left),
+    let k = packed-of 1 (omega arith) w b _ (found .row34 .ensures) (known .if2 .left) in
+    let e = row-there 1 (omega arith) w b _ (found .row34 .ensures) in (
+      stands 1 w k _ _ e,
+      steps-to 1 w k _ (next .successor .ensures 1 (getD w 21 0) (b .pointer-small) e),
+      its-pins 1 w k _ refl,
+      which .is-command .ensures .1 (else .if3 .left),
     )
 
 returns-4 : tie.Need-returns-4
 returns-4 c =
-    let which = c .before .before .before in
+    let else = c .before .before .before in
+    let which = else .before in
     let known = which .before .before in
     let found = known .before in
     let test = found .before .before in
     let a = test .before .before .before .args in
+    let w = a .words .now in
     let b = test .before .bounded .ensures 1 limits34 refl .0 (not-false _ (test .if1 .left)) in
-    let k = packed-of 1 (omega arith) (a .words .now) b _ (found .row34 .ensures) (known .if2 .left) in
-    image 1 (a .words .now) (a .kind) (a .arg) k
-    (c .event .ensures 1 k refl (row-there 1 (omega arith) (a .words .now) b _ (found .row34 .ensures)) (which .is-command .ensures .1 (c .before .before .if3 .left)))
+    let k = packed-of 1 (omega arith) w b _ (found .row34 .ensures) (known .if2 .left) in
+    image 1 w (a .kind) (a .arg) k
+    (c .event .ensures 1 k refl (row-there 1 (omega arith) w b _ (found .row34 .ensures)) (which .is-command .ensures .1 (else .if3 .left)))
 
 pub step34-spec : {M : Type 1} → statement M
 step34-spec =
@@ -92,5 +100,6 @@ step34-spec =
     (λ c κs. search needs)
     command-requires
     returns-3
+    (λ c κs. search needs)
     event-requires
     returns-4)
