@@ -5,10 +5,9 @@ use Prim.Native.Nat.{ℕ, _-_, _^_, _≤_}
 use native.Mathlib.Omega.{arith}
 use lib.ListN.{getD}
 use lib.Pow.{pow-pos}
-use Rattle.map.specs.Map.{successor, next}
 use Rattle.words.specs.Words.{partOf, PinLevels}
 use Rattle.words_rows.specs.Rows.{rowAt, Known}
-use Rattle.words_bus.specs.Packed.{Packed, Standing, StepsTo}
+use Rattle.words_bus.specs.Packed.{Packed, Standing}
 
 module _ (c : ℕ) (w : List ℕ) (k : Packed c w) where
   pub stands : (row n : ℕ) → row ≡ rowAt (partOf c) n → Standing row n w
@@ -16,13 +15,6 @@ module _ (c : ℕ) (w : List ℕ) (k : Packed c w) where
 
   pub its-pins : (pins : ℕ) → pins ≡ 2 ^ partOf c .width - 1 → pins ≡ 2 ^ partOf (getD w 27 0) .width - 1
   its-pins pins e = e ∙ ap (λ (c : ℕ). 2 ^ partOf c .width - 1) (sym (k .part-is))
-
-  pub steps-to : (after : ℕ) → after ≡ successor (partOf c) (getD w 21 0) → StepsTo after w
-  steps-to after e = e ∙ ap (λ (c : ℕ). successor (partOf c) (getD w 21 0)) (sym (k .part-is))
-
-  -- the register at the pointer is known: what follows is the next of its group
-  pub its-next : (after : ℕ) → StepsTo after w → after ≡ next (partOf c) (getD w 21 0)
-  its-next after e = e ∙ ap (λ (c : ℕ). successor (partOf c) (getD w 21 0)) (k .part-is) ∙ rw (k .pointer-known)
 
 -- the row of the register at the pointer is a known register's
 pub known-row : (row : ℕ) (w : List ℕ) → Standing row (getD w 21 0) w → Known row w

@@ -6,7 +6,7 @@ use Prim.Native.Nat.{ℕ, zero, suc, _-_, _/_, _%_, _^_, _<_}
 use lib.Bits.{bitOr}
 use lib.Dec.{eqb, ltb}
 use lib.ListN.{getD}
-use Rattle.map.specs.Map.{Part, reserved, successor}
+use Rattle.map.specs.Map.{Part, reserved}
 use Rattle.device_rules.specs.Device.{State, Outcome, state, out}
 use Rattle.device_rules.specs.declared.Answer.{Answer}
 use Rattle.device_rules.specs.declared.Answer.the-variants.{Nothing, Ack, Nak, Byte, Refused}
@@ -48,10 +48,6 @@ pub record Standing (row number : ℕ) (w : List ℕ) : Type 0 where
   pub packed : Packed (getD w partWord 0) w
   pub row-is : row ≡ rowAt (partOf (getD w partWord 0)) number
 
--- the number that follows the pointer's in its group, of the part that the words name
-abbrev pub StepsTo : (after : ℕ) → List ℕ → Type 0
-StepsTo after w = after ≡ successor (partOf (getD w partWord 0)) (getD w pointerWord 0)
-
 -- an answer as one number: its kind, and from bit 8 on the byte read or the refusal's number
 abbrev pub answerAt : ℕ → Answer
 answerAt n = getD (Nothing ∷ Ack ∷ Nak ∷ Byte (n / 256 % 256) ∷ []) (n % 256) (Refused (n / 256 % 256))
@@ -66,6 +62,12 @@ pub record Steps (c : ℕ) (w w' : List ℕ) (kind arg : ℕ) (answer : Answer) 
   pub taken : Packed c w → Leaves c w' answer (stepped (partOf c) (stateIn (partOf c) w) kind arg)
   pub broken : (Packed c w → ⊥) → answer ≡ Refused 3
   pub refused : (n : ℕ) → answer ≡ Refused n → w' ≡ w
+
+-- the row of the register at the pointer, of words that are packed; 0 of any others
+pub record Judged (c : ℕ) (w : List ℕ) (row : ℕ) : Type 0 where
+  pub packed : (row ≡ 0 → ⊥) → Packed c w
+  pub row-is : (row ≡ 0 → ⊥) → row ≡ rowAt (partOf c) (getD w pointerWord 0)
+  pub broken : row ≡ 0 → Packed c w → ⊥
 
 -- what the image test asks of the words alone, the pointer's register apart
 pub record Bounded (c : ℕ) (w : List ℕ) : Type 0 where

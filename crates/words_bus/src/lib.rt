@@ -11,7 +11,7 @@ ghost use Rattle.device_rules.specs.Refusals.{stepped};
 ghost use Rattle.device_rules.specs.Answers.{answerByte};
 ghost use Rattle.words.specs.Words.{partOf};
 ghost use Rattle.words_rows.specs.Rows.{rowAt};
-ghost use Rattle.words_bus.specs.Packed.{stateIn, answerAt, resetWords, Packed, Standing, StepsTo, Leaves};
+ghost use Rattle.words_bus.specs.Packed.{stateIn, answerAt, resetWords, Packed, Standing, Leaves};
 use device_rules::Answer;
 use device_rules::BYTE;
 use device_rules::FETCH;
@@ -135,14 +135,15 @@ fn byte_chosen(words: &mut [u64; 28], wanted: u32, value: u8) -> u32
     goes(words, FILLING, ACK)
 }
 
-// A byte in Filling: the register at the pointer, whose row is given, is written, and the pointer steps to the successor that is given.
-fn byte_filling(words: &mut [u64; 28], row: u32, after: u64, value: u8) -> u32
-    requires { ⌜ Standing row (getD (now words) 21 0) (now words) × (getD (now words) 22 0 ≡ 3) × StepsTo after (now words) ⌝ }
+// A byte in Filling: the register at the pointer, whose row is given, is written, and the pointer steps.
+fn byte_filling(words: &mut [u64; 28], row: u32, value: u8) -> u32
+    requires { ⌜ Standing row (getD (now words) 21 0) (now words) × (getD (now words) 22 0 ≡ 3) ⌝ }
     ensures { λ a. ⌜ ((c : ℕ) → Packed c (now (words .entry)) → getD (now (words .entry)) 22 0 ≡ 3 → row ≡ rowAt (partOf c) (getD (now (words .entry)) 21 0)
         → Leaves c (now (words .exit)) (answerAt a) (byteIn (partOf c) Filling (stateIn (partOf c) (now (words .entry))) value)) ⌝ }
 {
     words_writes::write_register(words, row, value);
-    words[POINTER] = after;
+    let next = words_rows::successor(row);
+    words[POINTER] = next;
     ACK
 }
 
@@ -158,15 +159,15 @@ fn byte_call(words: &mut [u64; 28], value: u8) -> u32
 }
 
 // A byte from the master, which is not a command.
-fn byte(words: &mut [u64; 28], row: u32, after: u64, value: u8) -> u32
-    requires { ⌜ Standing row (getD (now words) 21 0) (now words) × (getD (now words) 22 0 ≡ 2 → ⊥) × StepsTo after (now words) ⌝ }
+fn byte(words: &mut [u64; 28], row: u32, value: u8) -> u32
+    requires { ⌜ Standing row (getD (now words) 21 0) (now words) × (getD (now words) 22 0 ≡ 2 → ⊥) ⌝ }
     ensures { λ a. ⌜ ((c : ℕ) → Packed c (now (words .entry)) → (getD (now (words .entry)) 22 0 ≡ 2 → ⊥) → row ≡ rowAt (partOf c) (getD (now (words .entry)) 21 0)
         → Leaves c (now (words .exit)) (answerAt a) (stepOf (partOf c) (stateIn (partOf c) (now (words .entry))) (ByteSent value))) ⌝ }
 {
     let bus = words[BUS];
     match bus {
         OPENED => byte_opened(words, value),
-        FILLING => byte_filling(words, row, after, value),
+        FILLING => byte_filling(words, row, value),
         CALL => byte_call(words, value),
         IDLE => NAK,
         _ => goes(words, DEAF, NAK),
@@ -174,8 +175,8 @@ fn byte(words: &mut [u64; 28], row: u32, after: u64, value: u8) -> u32
 }
 
 // A byte fetched by the master.
-fn fetch(words: &mut [u64; 28], row: u32, after: u64, acknowledged: bool) -> u32
-    requires { ⌜ Standing row (getD (now words) 21 0) (now words) × StepsTo after (now words) ⌝ }
+fn fetch(words: &mut [u64; 28], row: u32, acknowledged: bool) -> u32
+    requires { ⌜ Standing row (getD (now words) 21 0) (now words) ⌝ }
     ensures { λ a. ⌜ ((c : ℕ) → Packed c (now (words .entry)) → row ≡ rowAt (partOf c) (getD (now (words .entry)) 21 0)
         → Leaves c (now (words .exit)) (answerAt a) (stepOf (partOf c) (stateIn (partOf c) (now (words .entry))) (ByteFetched acknowledged))) ⌝ }
 {
@@ -185,7 +186,7 @@ fn fetch(words: &mut [u64; 28], row: u32, after: u64, acknowledged: bool) -> u32
     let shown = words_views::show(&*words, row);
     words_views::settle(words, row);
     if acknowledged {
-        words[POINTER] = after;
+        words[POINTER] = words_rows::successor(row);
         return read(shown);
     }
     words[BUS] = DEAF;
@@ -256,9 +257,9 @@ pub fn command(words: &mut [u64; 28], row: u32, arg: u64) -> u32
     byte_chosen(words, row, arg as u8)
 }
 
-// Any other event on packed words, the row of the register at the pointer and its successor given.
-pub fn event(words: &mut [u64; 28], pins: u64, row: u32, after: u64, kind: u32, arg: u64) -> u32
-    requires { ⌜ Standing row (getD (now words) 21 0) (now words) × StepsTo after (now words) × (pins ≡ 2 ^ partOf (getD (now words) 27 0) .width - 1)
+// Any other event on packed words, the row of the register at the pointer given.
+pub fn event(words: &mut [u64; 28], pins: u64, row: u32, kind: u32, arg: u64) -> u32
+    requires { ⌜ Standing row (getD (now words) 21 0) (now words) × (pins ≡ 2 ^ partOf (getD (now words) 27 0) .width - 1)
         × (kind ≡ 2 → getD (now words) 22 0 ≡ 2 → ⊥) ⌝ }
     ensures { λ a. ⌜ ((c : ℕ) → Packed c (now (words .entry)) → pins ≡ 2 ^ partOf c .width - 1 → row ≡ rowAt (partOf c) (getD (now (words .entry)) 21 0)
         → (kind ≡ 2 → getD (now (words .entry)) 22 0 ≡ 2 → ⊥) → Leaves c (now (words .exit)) (answerAt a) (stepped (partOf c) (stateIn (partOf c) (now (words .entry))) kind arg)) ⌝ }
@@ -270,13 +271,13 @@ pub fn event(words: &mut [u64; 28], pins: u64, row: u32, after: u64, kind: u32, 
             if 255 < arg {
                 return WRONG_ARGUMENT;
             }
-            byte(words, row, after, arg as u8)
+            byte(words, row, arg as u8)
         }
         FETCH => {
             if 1 < arg {
                 return WRONG_ARGUMENT;
             }
-            fetch(words, row, after, arg == 1)
+            fetch(words, row, arg == 1)
         }
         LEVELS => {
             if pins < arg {

@@ -4,17 +4,11 @@ ghost use Prim.Native.Nat.{_^_, _<_};
 ghost use Rattle.map.specs.Map.{part24, Stepping};
 ghost use Rattle.device_rules.specs.Refusals.{stepped};
 ghost use Rattle.device_rules.specs.PowerOn.{powerOn};
-ghost use Rattle.words_rows.specs.Rows.{Rowed};
+ghost use Rattle.words_rows.specs.Rows.{rowAt, Rowed};
 ghost use Rattle.words_bus.specs.Packed.{stateIn, answerAt, Packed, Leaves, Steps};
 use device_rules::Answer;
-use map::DEBOUNCE_COUNT24;
-use map::DEBOUNCE_COUNT34;
-use map::DEBOUNCED24;
-use map::DEBOUNCED34;
 use map::PINS24;
 use map::PINS34;
-use map::PORT_KINDS24;
-use map::PORT_KINDS34;
 use pins::Sets;
 use words::POINTER;
 
@@ -43,14 +37,23 @@ pub fn event(words: &mut [u64; 28], kind: u32, arg: u64) -> Answer
         return words_bus::answer(words_bus::command(words, wanted, arg));
     }
     let row = words_rows::row24((words[POINTER] % 128) as u8);
-    let after = words_rows::successor(row);
-    words_bus::answer(words_bus::event(words, PINS24, row, after, kind, arg))
+    words_bus::answer(words_bus::event(words, PINS24, row, kind, arg))
 }
 
-fn wide(byte: u8) -> u64
+// A number that fits a row.
+fn wide(byte: u8) -> u32
     ensures { λ r. ⌜ r ≡ byte ⌝ }
 {
-    byte as u64
+    byte as u32
+}
+
+// The row of a register out of the part's two tables: its successor from the second.
+fn row_in(rows: &[u32; 128], next: &[u8; 128], number: usize) -> u32
+    requires { ⌜ (number < 128) × Rowed part24 (now rows) × Stepping part24 (now next) ⌝ }
+    ensures { λ r. ⌜ r ≡ rowAt part24 number ⌝ }
+{
+    let successor = wide(next[number]);
+    rows[number] | (successor << 15)
 }
 
 // The same with the part's tables lent, its answer as a number: what a loop calls.
@@ -65,30 +68,18 @@ pub fn event_by(
     ensures { λ a. ⌜ Leaves 0 (now (words .exit)) (answerAt a) (stepped part24 (stateIn part24 (now (words .entry))) kind arg) ⌝ }
 {
     if words_bus::is_command(&*words, kind) {
-        let wanted = rows[(arg % 128) as usize];
+        let wanted = row_in(rows, next, (arg % 128) as usize);
         return words_bus::command(words, wanted, arg);
     }
-    let at = (words[POINTER] % 128) as usize;
-    let row = rows[at];
-    let after = wide(next[at]);
-    words_bus::event(words, PINS24, row, after, kind, arg)
+    let row = row_in(rows, next, (words[POINTER] % 128) as usize);
+    words_bus::event(words, PINS24, row, kind, arg)
 }
 
 // One event of the 24-pin part, whatever the words hold.
 pub fn step24(words: &mut [u64; 28], kind: u32, arg: u64) -> u32
     ensures { λ a. ⌜ Steps 0 (now (words .entry)) (now (words .exit)) kind arg (answerAt a) ⌝ }
 {
-    if !words_fits::bounded(
-        &*words,
-        PINS24,
-        PORT_KINDS24,
-        DEBOUNCED24,
-        DEBOUNCE_COUNT24,
-        0,
-    ) {
-        return words_bus::WRONG_IMAGE;
-    }
-    let row = words_rows::row24((words[POINTER] % 128) as u8);
+    let row = words_fits::judged24(&*words);
     if row == 0 {
         return words_bus::WRONG_IMAGE;
     }
@@ -96,25 +87,14 @@ pub fn step24(words: &mut [u64; 28], kind: u32, arg: u64) -> u32
         let wanted = words_rows::row24((arg % 128) as u8);
         return words_bus::command(words, wanted, arg);
     }
-    let after = words_rows::successor(row);
-    words_bus::event(words, PINS24, row, after, kind, arg)
+    words_bus::event(words, PINS24, row, kind, arg)
 }
 
 // And of its sister.
 fn step34(words: &mut [u64; 28], kind: u32, arg: u64) -> u32
     ensures { λ a. ⌜ Steps 1 (now (words .entry)) (now (words .exit)) kind arg (answerAt a) ⌝ }
 {
-    if !words_fits::bounded(
-        &*words,
-        PINS34,
-        PORT_KINDS34,
-        DEBOUNCED34,
-        DEBOUNCE_COUNT34,
-        1,
-    ) {
-        return words_bus::WRONG_IMAGE;
-    }
-    let row = words_rows::row34((words[POINTER] % 128) as u8);
+    let row = words_fits::judged34(&*words);
     if row == 0 {
         return words_bus::WRONG_IMAGE;
     }
@@ -122,6 +102,5 @@ fn step34(words: &mut [u64; 28], kind: u32, arg: u64) -> u32
         let wanted = words_rows::row34((arg % 128) as u8);
         return words_bus::command(words, wanted, arg);
     }
-    let after = words_rows::successor(row);
-    words_bus::event(words, PINS34, row, after, kind, arg)
+    words_bus::event(words, PINS34, row, kind, arg)
 }

@@ -1,13 +1,11 @@
 // Whether words are the packing of a well-formed image, as refusal 3 asks.
 ghost use mathlib.Core.Path.{_≡_};
-ghost use mathlib.Core.Bool.{true};
-ghost use Prim.Native.Nat.{ℕ, _/_, _%_, _^_, _<_};
+ghost use mathlib.Core.Bool.{true, false};
+ghost use Prim.Native.Nat.{ℕ, _/_, _^_};
 ghost use lib.Bits.{bitOr};
 ghost use lib.ListN.{getD};
 ghost use Rattle.bits.specs.Bits.{without};
-ghost use Rattle.words.specs.Words.{partOf};
-ghost use Rattle.words_rows.specs.Rows.{rowAt};
-ghost use Rattle.words_bus.specs.Packed.{unionTo, Packed, Bounded, Limits};
+ghost use Rattle.words_bus.specs.Packed.{unionTo, Packed, Judged, Bounded, Limits};
 use map::DEBOUNCE_COUNT24;
 use map::DEBOUNCE_COUNT34;
 use map::DEBOUNCED24;
@@ -59,14 +57,7 @@ fn odd(words: &[u64; 28]) -> u64
 }
 
 // Whether the words may stand, the pointer's register apart.
-pub fn bounded(
-    words: &[u64; 28],
-    pins: u64,
-    kinds: u64,
-    enables: u64,
-    counts: u64,
-    part: u64,
-) -> bool
+fn bounded(words: &[u64; 28], pins: u64, kinds: u64, enables: u64, counts: u64, part: u64) -> bool
     ensures { λ r. ⌜ ((c : ℕ) → Limits c pins kinds enables counts → part ≡ c
         → (r ≡ true → Bounded c (now (words .entry))) × (Bounded c (now (words .entry)) → r ≡ true)) ⌝ }
 {
@@ -77,22 +68,44 @@ pub fn bounded(
     spare(words, pins, kinds, enables, counts) | odd(words) == 0
 }
 
-// Whether the words are the packing of a well-formed image of a part with these limits, the row of the register at the pointer given.
-fn packed(
-    words: &[u64; 28],
-    pins: u64,
-    kinds: u64,
-    enables: u64,
-    counts: u64,
-    part: u64,
-    row: u32,
-) -> bool
-    ensures { λ r. ⌜ ((c : ℕ) → c < 2 → Limits c pins kinds enables counts → part ≡ c → row ≡ rowAt (partOf c) (getD (now (words .entry)) 21 0 % 128)
-        → (r ≡ true → Packed c (now (words .entry))) × (Packed c (now (words .entry)) → r ≡ true)) ⌝ }
+// The row of the register at the pointer, if the words are the packing of a well-formed image of the 24-pin part; else 0.
+pub fn judged24(words: &[u64; 28]) -> u32
+    ensures { λ r. ⌜ Judged 0 (now (words .entry)) r ⌝ }
 {
-    if !bounded(words, pins, kinds, enables, counts, part) {
-        return false;
+    if !bounded(
+        words,
+        PINS24,
+        PORT_KINDS24,
+        DEBOUNCED24,
+        DEBOUNCE_COUNT24,
+        0,
+    ) {
+        return 0;
     }
+    words_rows::row24((words[POINTER] % 128) as u8)
+}
+
+// And of its sister.
+pub fn judged34(words: &[u64; 28]) -> u32
+    ensures { λ r. ⌜ Judged 1 (now (words .entry)) r ⌝ }
+{
+    if !bounded(
+        words,
+        PINS34,
+        PORT_KINDS34,
+        DEBOUNCED34,
+        DEBOUNCE_COUNT34,
+        1,
+    ) {
+        return 0;
+    }
+    words_rows::row34((words[POINTER] % 128) as u8)
+}
+
+// Whether a row is a register's.
+fn is_row(row: u32) -> bool
+    ensures { λ r. ⌜ (r ≡ true → row ≡ 0 → ⊥) × (r ≡ false → row ≡ 0) ⌝ }
+{
     if row == 0 {
         return false;
     }
@@ -103,26 +116,9 @@ fn packed(
 pub fn fits(words: &[u64; 28], part: u64) -> bool
     ensures { λ r. ⌜ (r ≡ true → Packed part (now (words .entry))) × (Packed part (now (words .entry)) → r ≡ true) ⌝ }
 {
-    let n = (words[POINTER] % 128) as u8;
     match part {
-        0 => packed(
-            words,
-            PINS24,
-            PORT_KINDS24,
-            DEBOUNCED24,
-            DEBOUNCE_COUNT24,
-            0,
-            words_rows::row24(n),
-        ),
-        1 => packed(
-            words,
-            PINS34,
-            PORT_KINDS34,
-            DEBOUNCED34,
-            DEBOUNCE_COUNT34,
-            1,
-            words_rows::row34(n),
-        ),
+        0 => is_row(judged24(words)),
+        1 => is_row(judged34(words)),
         _ => false,
     }
 }

@@ -2,10 +2,10 @@
 use mathlib.Core.Path.{_≡_, refl, sym, ap, ap₂, _∙_}
 use mathlib.Core.Bool.{Bool, true, false, cond, not, _&&_, _||_}
 use mathlib.Core.List.{List}
-use Prim.Native.Nat.{ℕ, zero, suc, _+_, _-_, _/_, _^_, _<_}
+use Prim.Native.Nat.{ℕ, zero, suc, _+_, _-_, _*_, _/_, _%_, _^_, _<_}
 use native.Mathlib.Omega.{arith}
 use borrow.Author.Tests.{eqb-true, eqb-false, ne-eqb, ltb-true, lt-ltb, le-ltb}
-use lib.Bits.{bitAnd}
+use lib.Bits.{bitAnd, bitOr}
 use lib.Dec.{eqb, ltb}
 use Rattle.bits.proofs.Decide.{each, eachBool, clash}
 use Rattle.map.specs.Map.{Part, Kind, part24, part34, kindAt, code, stored, reserved, next, successor, roomAt}
@@ -14,7 +14,7 @@ use Rattle.words.specs.Words.{partOf, slotAt, digitAt, paired}
 use Rattle.words.proofs.Moving.{still}
 use Rattle.words.proofs.Sound.{sound, single, pick, code-small, word-is}
 use Rattle.map.proofs.ByNumber.{kind-is}
-use Rattle.words_rows.specs.Rows.{ruleAt, rowAt, wordIn, Numbered, Known}
+use Rattle.words_rows.specs.Rows.{ruleAt, rowAt, bareAt, wordIn, Numbered, Known}
 
 -- n is none of the numbers below k, as a `match` of one number an arm says it
 abbrev Apart : ℕ → ℕ → Type 0
@@ -39,6 +39,7 @@ record Rows (p : Part) : Type 0 where
   pub ports : (n : ℕ) → n < 128 → cond (paired (slotAt p n)) 0 (bitAnd (rowAt p n / 2 ^ 12) 7) ≡ cond (paired (slotAt p n)) 0 (digitAt p n)
   pub fourths : (n : ℕ) → n < 128 → cond (paired (slotAt p n)) (bitAnd (rowAt p n / 2 ^ 11) 15) 0 ≡ cond (paired (slotAt p n)) (digitAt p n) 0
   pub successors : (n : ℕ) → n < 128 → bitAnd (rowAt p n / 2 ^ 15) 127 ≡ successor p n
+  pub wholes : (n : ℕ) → n < 128 → bitOr (bareAt p n) (successor p n * 2 ^ 15 % 2 ^ 32) ≡ rowAt p n
   pub nexts : (n : ℕ) → n < 128 → cond (reserved p n) false (reserved p (next p n)) ≡ false
   pub existings : (n : ℕ) → n < 128 → cond (reserved p n) 0 (rowAt p n / 2 ^ 24) ≡ cond (reserved p n) 0 (2 ^ roomAt p n - 1)
   -- a rule says whether the register is kept in two words, whether it is stored, and whether it moves pins
@@ -49,7 +50,7 @@ record Rows (p : Part) : Type 0 where
   pub zeros : (n : ℕ) → n < 128 → eqb (rowAt p n) 0 ≡ reserved p n
 
 rows24 : Rows part24
-unfolding rowAt slotAt digitAt kindAt next reserved
+unfolding rowAt bareAt slotAt digitAt kindAt next reserved
 rows24 = record {
   rules = each 128 _ _ tt;
   words = each 128 _ _ tt;
@@ -57,6 +58,7 @@ rows24 = record {
   ports = each 128 _ _ tt;
   fourths = each 128 _ _ tt;
   successors = each 128 _ _ tt;
+  wholes = each 128 _ _ tt;
   nexts = eachBool 128 _ _ tt;
   existings = each 128 _ _ tt;
   pairs = eachBool 128 _ _ tt;
@@ -67,7 +69,7 @@ rows24 = record {
 }
 
 rows34 : Rows part34
-unfolding rowAt slotAt digitAt kindAt next reserved
+unfolding rowAt bareAt slotAt digitAt kindAt next reserved
 rows34 = record {
   rules = each 128 _ _ tt;
   words = each 128 _ _ tt;
@@ -75,6 +77,7 @@ rows34 = record {
   ports = each 128 _ _ tt;
   fourths = each 128 _ _ tt;
   successors = each 128 _ _ tt;
+  wholes = each 128 _ _ tt;
   nexts = eachBool 128 _ _ tt;
   existings = each 128 _ _ tt;
   pairs = eachBool 128 _ _ tt;
@@ -87,6 +90,10 @@ rows34 = record {
 rows : (part : ℕ) → Rows (partOf part)
 rows zero = rows24
 rows (suc part) = rows34
+
+-- a row out of a part's two tables
+pub whole-row : (part n : ℕ) → n < 128 → bitOr (bareAt (partOf part) n) (successor (partOf part) n * 2 ^ 15 % 2 ^ 32) ≡ rowAt (partOf part) n
+whole-row part = rows part .wholes
 
 module _ (row part n : ℕ) (hn : n < 128) (e : row ≡ rowAt (partOf part) n) where
   pub rule-of : bitAnd row 15 ≡ ruleAt (partOf part) n
@@ -120,6 +127,10 @@ module _ (row part n : ℕ) (known : reserved (partOf part) n ≡ false) (e : ro
       go : (t : Bool) → ltb n 128 ≡ t → n < 128
       go true q = ltb-true n 128 q
       go false q = clash (reserved (partOf part) n) (ap (λ (t : Bool). not t || eqb (code (kindAt (partOf part) n)) (code Reserved)) q) known
+
+  -- what the table of successors has for a register is the next of its group
+  pub next-of : {r : ℕ} → r ≡ successor (partOf part) n → r ≡ next (partOf part) n
+  next-of q = q ∙ rw known
 
   -- the next number of a register's group is a register's too
   pub next-known : reserved (partOf part) (next (partOf part) n) ≡ false

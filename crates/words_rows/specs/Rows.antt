@@ -24,9 +24,13 @@ rowAt p n =
     cond (reserved p n) 0
     (ruleAt p n + slotAt p n * 2 ^ 4 + shiftAt p n * 2 ^ 9 + next p n * 2 ^ 15 + (2 ^ roomAt p n - 1) * 2 ^ 24)
 
--- a table of all rows of a part
+-- the row but for its successor
+unfoldable pub bareAt : Part → ℕ → ℕ
+bareAt p n = cond (reserved p n) 0 (ruleAt p n + slotAt p n * 2 ^ 4 + shiftAt p n * 2 ^ 9 + (2 ^ roomAt p n - 1) * 2 ^ 24)
+
+-- a table of all these of a part
 abbrev pub Rowed : Part → (rows : List ℕ) → Type 0
-Rowed p rows = (n : ℕ) → n < 128 → getD rows n 0 ≡ rowAt p n
+Rowed p rows = (n : ℕ) → n < 128 → getD rows n 0 ≡ bareAt p n
 
 -- the word that a row names, of whatever number it is
 abbrev pub wordIn : ℕ → ℕ

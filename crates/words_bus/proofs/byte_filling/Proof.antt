@@ -5,22 +5,21 @@ use lib.ListN.{getD}
 use Rattle.device_rules.specs.Device.{State, out, byteIn}
 use Rattle.device_rules.specs.declared.Answer.the-variants.{Ack}
 use Rattle.device_rules.proofs.Stepping.{same-state}
-use Rattle.words_rows.proofs.Taken.{next-known}
+use Rattle.words_rows.proofs.Taken.{known-small, next-of, next-known}
 use Rattle.words_bus.proofs.Left.{holds-pointer}
-use Rattle.words_bus.proofs.Standing.{its-next}
 use Rattle.words_bus.proofs.byte_filling.Statement.{statement}
 use Rattle.words_bus.proofs.byte_filling.Tie as tie
 
 returns : tie.Need-returns
 unfolding byteIn
 returns c =
-    let s = c .before .before in
-    let a = s .args in
+    let a = c .before .before .before .args in
     let n = getD (a .words .now) 21 0 in
     λ k packed bus e.
-    let q = its-next k (a .words .now) packed (a .after) (s .pre .2) in
-    holds-pointer k (a .words .now) _ packed _ (c .write-register .ensures k n (packed .pointer-known) e (packed .fit)) Ack (a .after)
+    let q = next-of (a .row) k n (packed .pointer-known) e (c .successor .ensures k n (known-small (a .row) k n (packed .pointer-known) e) e) in
+    holds-pointer k (a .words .now) _ packed _ (c .before .write-register .ensures k n (packed .pointer-known) e (packed .fit)) Ack (c .successor .result)
     (rw q (next-known (a .row) k n (packed .pointer-known) e)) (ap (λ (s : State). out Ack s) (same-state refl q bus refl))
 
 pub byte-filling-spec : {M : Type 1} → statement M
-byte-filling-spec = tie.close (tie.spec (λ c κs. search needs) (λ c. search needs) returns)
+byte-filling-spec =
+    tie.close (tie.spec (λ c κs. search needs) (λ c κs. search needs) (λ c. search needs) returns)

@@ -85,13 +85,13 @@ byte-requires : tie.Need-byte-requires
 byte-requires c κs =
     let key = c .before .before in
     let start = key .before in
-    (start .pre .0, start .pre .3 (key .match .keys3), start .pre .1)
+    (start .pre .0, start .pre .2 (key .match .keys3))
 
 set-levels-requires : tie.Need-set-levels-requires
 set-levels-requires c κs =
     let start = c .before .before .before in
     let a = start .args in
-    pin-levels _ (a .words .now) (start .pre .0 .packed) (a .pins) (a .arg) (start .pre .2) (let h = c .before .if3 .left in omega arith)
+    pin-levels _ (a .words .now) (start .pre .0 .packed) (a .pins) (a .arg) (start .pre .1) (let h = c .before .if3 .left in omega arith)
 
 pub event-spec : {M : Type 1} → statement M
 event-spec =

@@ -7,10 +7,10 @@ use Rattle.device_rules.specs.Device.{fetchIn}
 use Rattle.device_rules.specs.declared.Answer.the-variants.{Byte}
 use Rattle.device_rules.proofs.Stepping.{same-state, same-outcome, sending, stray-fetch}
 use Rattle.words.specs.Words.{partOf}
-use Rattle.words_rows.proofs.Taken.{next-known, known-inside}
+use Rattle.words_rows.proofs.Taken.{known-small, next-of, next-known, known-inside}
 use Rattle.words_bus.specs.Packed.{stateIn}
 use Rattle.words_bus.proofs.Left.{left-same, holds-bus, holds-pointer}
-use Rattle.words_bus.proofs.Standing.{known-row, its-next}
+use Rattle.words_bus.proofs.Standing.{known-row}
 use Rattle.words_bus.proofs.fetch.Statement.{statement}
 use Rattle.words_bus.proofs.fetch.Tie as tie
 
@@ -24,20 +24,19 @@ returns c =
 returns-2 : tie.Need-returns-2
 unfolding fetchIn
 returns-2 c =
-    let last = c .before in
-    let settle = last .before in
+    let next = c .before in
+    let settle = next .before .before in
     let show = settle .before .before in
     let sends = show .before .before in
-    let s = sends .before .before in
-    let a = s .args in
+    let a = sends .before .before .args in
     let n = getD (a .words .now) 21 0 in
     λ k packed e.
-    let q = its-next k (a .words .now) packed (a .after) (s .pre .1) in
+    let q = next-of (a .row) k n (packed .pointer-known) e (next .successor .ensures k n (known-small (a .row) k n (packed .pointer-known) e) e) in
     rw (c .read2 .ensures)
-    (holds-pointer k (a .words .now) _ packed _ (settle .settle .ensures k n (packed .pointer-known) e (packed .fit)) (Byte (show .show .result)) (a .after)
+    (holds-pointer k (a .words .now) _ packed _ (settle .settle .ensures k n (packed .pointer-known) e (packed .fit)) (Byte (show .show .result)) (next .successor .result)
     (rw q (next-known (a .row) k n (packed .pointer-known) e))
     (sending (partOf k) (stateIn (partOf k) (a .words .now)) (a .acknowledged) (sends .if1 .left)
-    (same-outcome (ap Byte (show .show .ensures k n (packed .pointer-known) e (packed .fit))) (simp (last .if2 .taken) (same-state refl q (sends .if1 .left) refl)))))
+    (same-outcome (ap Byte (show .show .ensures k n (packed .pointer-known) e (packed .fit))) (simp (next .before .if2 .taken) (same-state refl q (sends .if1 .left) refl)))))
 
 returns-3 : tie.Need-returns-3
 unfolding fetchIn
@@ -54,7 +53,7 @@ returns-3 c =
     (same-outcome (ap Byte (show .show .ensures k n (packed .pointer-known) e (packed .fit))) (simp (c .before .if2 .left) refl))))
 
 show-requires : tie.Need-show-requires
-show-requires c κs = known-inside (known-row _ _ (c .before .before .before .pre .0))
+show-requires c κs = known-inside (known-row _ _ (c .before .before .before .pre))
 
 pub fetch-spec : {M : Type 1} → statement M
 fetch-spec =
@@ -64,6 +63,7 @@ fetch-spec =
     (λ c κs. search needs)
     returns
     show-requires
+    (λ c κs. search needs)
     (λ c κs. search needs)
     (λ c. search needs)
     (λ c κs. search needs)

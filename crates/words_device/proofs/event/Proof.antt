@@ -3,13 +3,12 @@ use borrow.Author.Needs.{needs}
 use mathlib.Core.Path.{refl, sym, ap}
 use Prim.Native.Nat.{ℕ}
 use native.Mathlib.Omega.{arith}
-use lib.ListN.{getD}
 use Rattle.map.specs.Map.{part24}
 use Rattle.device_rules.specs.Refusals.{stepped}
 use Rattle.words_bus.specs.Packed.{stateIn}
 use Rattle.words_bus.proofs.Left.{by-rule}
 use Rattle.words_bus.proofs.Judging.{bounded-of, row-there}
-use Rattle.words_bus.proofs.Standing.{stands, steps-to, its-pins}
+use Rattle.words_bus.proofs.Standing.{stands, its-pins}
 use Rattle.words_device.proofs.Answering.{answered}
 use Rattle.words_device.proofs.event.Statement.{statement}
 use Rattle.words_device.proofs.event.Tie as tie
@@ -31,31 +30,26 @@ returns c =
 
 event-requires : tie.Need-event-requires
 event-requires c κs =
-    let next = c .before in
-    let r = next .before in
+    let r = c .before in
     let else = r .before .before in
     let which = else .before in
     let s = which .before .before in
-    let w = s .args .words .now in
-    let b = bounded-of 0 w (s .pre) in
-    let e = row-there 0 (omega arith) w b _ (r .row242 .ensures) in (
-      stands 0 w (s .pre) _ _ e,
-      steps-to 0 w (s .pre) _ (next .successor .ensures 0 (getD w 21 0) (b .pointer-small) e),
-      its-pins 0 w (s .pre) _ refl,
+    let b = bounded-of 0 (s .args .words .now) (s .pre) in (
+      stands 0 (s .args .words .now) (s .pre) _ _ (row-there 0 (omega arith) (s .args .words .now) b _ (r .row242 .ensures)),
+      its-pins 0 (s .args .words .now) (s .pre) _ refl,
       which .is-command .ensures .1 (else .if1 .left),
     )
 
 returns-2 : tie.Need-returns-2
 returns-2 c =
     let d = c .before in
-    let r = d .before .before .before in
+    let r = d .before .before in
     let else = r .before .before in
     let which = else .before in
     let s = which .before .before in
-    let w = s .args .words .now in
-    let b = bounded-of 0 w (s .pre) in
+    let b = bounded-of 0 (s .args .words .now) (s .pre) in
     answered (c .answer2 .ensures)
-    (d .event .ensures 0 (s .pre) refl (row-there 0 (omega arith) w b _ (r .row242 .ensures)) (which .is-command .ensures .1 (else .if1 .left)))
+    (d .event .ensures 0 (s .pre) refl (row-there 0 (omega arith) (s .args .words .now) b _ (r .row242 .ensures)) (which .is-command .ensures .1 (else .if1 .left)))
 
 pub event-spec : {M : Type 1} → statement M
 event-spec =
@@ -69,7 +63,6 @@ event-spec =
     returns
     (λ c. search needs)
     (λ c. search needs)
-    (λ c κs. search needs)
     (λ c κs. search needs)
     event-requires
     (λ c κs. search needs)
