@@ -1,9 +1,10 @@
 -- Making a device: when it is refused, and what is made. Assumes nothing.
-use mathlib.Core.Path.{_≡_, refl}
-use mathlib.Core.Bool.{Bool, true, false}
+use mathlib.Core.Path.{_≡_, refl, ap, sym}
+use mathlib.Core.Bool.{Bool, true, false, cond, _&&_}
 use mathlib.Core.List.{List}
 use Prim.Native.Nat.{ℕ, _^_, _<_}
 use native.Mathlib.Omega.{arith}
+use lib.Dec.{ltb}
 use borrow.Author.Tests.{lt-ltb, le-ltb, lt-leb, le-leb}
 use Rattle.map.specs.Map.{part24, defaults}
 use Rattle.registers.specs.Registers.{core}
@@ -16,7 +17,7 @@ use Rattle.device_rules.proofs.Images.{sound-of}
 
 module _ (choice levels : ℕ) where
   pub choice-over : 3 < choice → 2 ≡ makingRefused part24 choice levels
-  choice-over h = simp (lt-leb choice 3 h)
+  choice-over h = sym (ap (λ (b : Bool). cond (b && ltb levels (2 ^ 24)) 0 2) (lt-leb choice 3 h))
 
   pub levels-over : choice < 4 → 0xff_ffff < levels → 2 ≡ makingRefused part24 choice levels
   levels-over fits h = simp (le-leb choice 3 (omega arith), le-ltb levels (2 ^ 24) h)

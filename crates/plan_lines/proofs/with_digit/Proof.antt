@@ -1,6 +1,6 @@
 -- `plan_lines::with_digit`: the digit goes to the field that the tabs name. Assumes nothing.
 use borrow.Author.Needs.{needs}
-use mathlib.Core.Path.{ap, _∙_}
+use mathlib.Core.Path.{_≡_, ap, _∙_}
 use borrow.Author.Tests.{eq-eqb, ne-eqb}
 use Rattle.plan_lines.specs.Asks.{reading, withDigit}
 use Rattle.plan_lines.specs.declared.Field.{Field}
@@ -11,7 +11,8 @@ returns : tie.Need-returns
 unfolding withDigit
 returns c =
     let r = c .before .before .before .before .args .r in
-    ap (λ (f : Field). reading f (r .goal) (r .tabs) (r .bad)) (c .digit-taken .ensures) ∙ simp (eq-eqb _ _ (c .before .if1 .taken))
+    let first : r .tabs ≡ 0 = c .before .if1 .taken in
+    ap (λ (f : Field). reading f (r .goal) (r .tabs) (r .bad)) (c .digit-taken .ensures) ∙ simp (eq-eqb _ _ first)
 
 returns-2 : tie.Need-returns-2
 unfolding withDigit

@@ -1,8 +1,9 @@
 -- `words_bus::stop`: from Armed a reset, else Idle. Assumes nothing.
 use borrow.Author.Needs.{needs}
-use mathlib.Core.Path.{ap}
+use mathlib.Core.Path.{_≡_, ap}
 use native.Mathlib.Omega.{arith}
 use borrow.Author.Tests.{eq-eqb, ne-eqb}
+use lib.ListN.{getD}
 use Rattle.device_rules.specs.Device.{step}
 use Rattle.device_rules.specs.declared.Answer.the-variants.{Nothing}
 use Rattle.words_bus.specs.Packed.{answerAt}
@@ -12,7 +13,9 @@ use Rattle.words_bus.proofs.stop.Tie as tie
 
 returns : tie.Need-returns
 unfolding step
-returns c = λ k packed e. by-rule (c .reset .ensures k packed e) (simp (eq-eqb _ _ (c .before .before .if1 .taken)))
+returns c =
+    let armed : getD (c .before .before .before .before .args .words .now) 22 0 ≡ 6 = c .before .before .if1 .taken in
+    λ k packed e. by-rule (c .reset .ensures k packed e) (simp (eq-eqb _ _ armed))
 
 returns-2 : tie.Need-returns-2
 unfolding step
