@@ -3,8 +3,8 @@
 use mathlib.Core.Bool.{Bool, true, cond}
 use Prim.Native.Nat.{ℕ}
 use Rattle.map.specs.Map.{Part, reserved}
-use Rattle.registers.specs.Registers.{drivenLow, drivenHigh, intAsserted, shown}
-use Rattle.device_rules.specs.Device.{State}
+use Rattle.registers.specs.Registers.{drivenLow, drivenHigh, intAsserted}
+use Rattle.device_rules.specs.Device.{State, shownIn}
 use Rattle.device_rules.specs.Refusals.{imageFits}
 use Rattle.device.specs.declared.Driven.{Driven}
 use Rattle.device.specs.declared.Line.{Line}
@@ -32,4 +32,4 @@ lineOf p s = cond (imageFits p s) (line 0 (intAsserted p (s .regs))) (line 3 tru
 
 -- the byte that a fetch of register n would show
 abbrev pub shownOf : Part → State → (n : ℕ) → Shown
-shownOf p s n = cond (imageFits p s) (cond (reserved p n) (byte 2 0) (byte 0 (shown p (s .regs) n))) (byte 3 0)
+shownOf p s n = cond (imageFits p s) (cond (reserved p n) (byte 2 0) (byte 0 (shownIn p s n))) (byte 3 0)

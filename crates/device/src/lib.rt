@@ -12,17 +12,20 @@ use device_rules::BAD_ARGUMENT;
 use device_rules::BAD_IMAGE;
 use device_rules::LAST_CHOICE;
 use device_rules::NONE;
+use device_rules::QUIET;
 use map::LAST_NUMBER;
 use map::PINS24;
 use pins::Sets;
 
-// The state of the device: one byte for each command number beside the pin sets, the pointer, the bus state and the address choice.
+// The state of the device: one byte for each command number beside the pin sets, the pointer, the bus state, the address choice, the status set and the line.
 pub struct Device {
     pub file: [u8; 128],
     pub sets: Sets,
     pub pointer: u8,
     pub bus: u8,
     pub choice: u8,
+    pub status: u64,
+    pub line: u8,
 }
 
 // An answer, and the device after.
@@ -108,6 +111,8 @@ impl Device {
             pointer: 0,
             bus: 0,
             choice,
+            status: 0,
+            line: QUIET,
         };
         Made { refusal, device }
     }
@@ -120,7 +125,18 @@ impl Device {
         let pointer = self.pointer as u64;
         let bus = self.bus as u64;
         let choice = self.choice as u64;
-        words_images::pack(words, 0, &file, self.sets, pointer, bus, choice)
+        let line = self.line as u64;
+        words_images::pack(
+            words,
+            0,
+            &file,
+            self.sets,
+            pointer,
+            bus,
+            choice,
+            self.status,
+            line,
+        )
     }
 
     // One event: the image is packed, the words are stepped, and what they hold then is unpacked.
@@ -144,6 +160,8 @@ impl Device {
             pointer: after.pointer,
             bus: after.bus,
             choice: after.choice,
+            status: after.status,
+            line: after.line,
         };
         Stepped { answer, device }
     }

@@ -15,7 +15,12 @@ use Rattle.pins.specs.declared.Sets.{Sets}
 use Rattle.pins.proofs.AllPins.{map-within}
 use Rattle.map.specs.Map.{Part, Kind, part24, kindAt, reserved, next, stored, defaults, fitting, fittingAt, fittingFrom, fileFits}
 use Rattle.map.specs.Map.Kind.{Reserved, Input, Status, InputStatus, Configuration, Latch, Mask, PortKind, Edge, Clear, Output, Polarity, PinKind, Stored}
-use Rattle.registers.specs.Registers.{keptAs, writtenAs, fetched, levelled}
+use Rattle.registers.specs.Registers.{core, keptAs, writtenAs, fetched, levelled, intAsserted}
+use Rattle.registers.specs.Interrupt.{workedOut}
+use Rattle.registers.proofs.Pinwise.{mapped24}
+use Rattle.registers.proofs.Writing.{same as same-core}
+use Rattle.registers.proofs.Kept.{kept-written, kept-fetched, kept-levelled, kept-reset, line-right}
+use Rattle.pins.proofs.Rules.{reset-map}
 use Rattle.device_rules.specs.Device.{State, Event, Bus, Outcome, number, busAt, state, out, goes, addressByte, byteIn, fetchIn, resetted, step}
 use Rattle.device_rules.specs.Refusals.{setsFit, imageFits, refusal, stepped, eventOf}
 use Rattle.device_rules.specs.Device.Bus.{Idle, Opened, Chosen, Filling, Sending, Call, Armed, Deaf}
@@ -23,7 +28,7 @@ use Rattle.device_rules.specs.Device.Event.{Start, Stop, HardwareReset, ByteSen
 use Rattle.device_rules.specs.Held.{Sound}
 use Rattle.device_rules.specs.declared.Answer.the-variants.{Ack, Nak}
 use Rattle.device_rules.specs.PowerOn.{powerOn}
-use Rattle.device_rules.proofs.Images.{sound-of, known-small}
+use Rattle.device_rules.proofs.Images.{sound-of, fits-of, known-small}
 use Rattle.device_demands.specs.Run.{Asked, after}
 use Rattle.registers.proofs.Pinwise.{load-set}
 
@@ -91,6 +96,7 @@ image-of s d =
       lt-ltb (s .choice) 4 (d .choice-small),
       sets-fit (s .regs .sets) (d .within),
       d .file-fits,
+      fits-of part24 s (d .right),
     )
 
 pub well-formed : (s : State) → imageFits part24 s ≡ true → length (s .regs .file) ≡ 128 → WellFormed s
@@ -115,6 +121,7 @@ module _ (s : State) (g : WellFormed s) where
       choice-small = g .sound .choice-small;
       within = g .sound .within;
       file-fits = g .sound .file-fits;
+      right = g .sound .right;
     };
     full = g .full;
   }
@@ -163,6 +170,7 @@ module _ (s : State) (g : WellFormed s) where
       choice-small = g .sound .choice-small;
       within = map-within 24 _ _;
       file-fits = written-file (kindAt part24 (s .pointer)) refl b .0;
+      right = kept-written part24 (s .regs) (s .interrupt) (g .sound .right) mapped24 (g .full) (s .pointer) (g .sound .pointer-small) b;
     };
     full = written-file (kindAt part24 (s .pointer)) refl b .1;
   }
@@ -177,6 +185,7 @@ module _ (s : State) (g : WellFormed s) where
       choice-small = g .sound .choice-small;
       within = map-within 24 _ _;
       file-fits = g .sound .file-fits;
+      right = kept-fetched part24 (s .regs) (s .interrupt) (g .sound .right) (s .pointer);
     };
     full = g .full;
   }
@@ -188,6 +197,7 @@ module _ (s : State) (g : WellFormed s) where
       choice-small = g .sound .choice-small;
       within = map-within 24 _ _;
       file-fits = g .sound .file-fits;
+      right = kept-fetched part24 (s .regs) (s .interrupt) (g .sound .right) (s .pointer);
     };
     full = g .full;
   }
@@ -202,6 +212,7 @@ module _ (s : State) (g : WellFormed s) where
       choice-small = g .sound .choice-small;
       within = map-within 24 _ _;
       file-fits = refl;
+      right = kept-reset part24 (s .regs) mapped24;
     };
     full = refl;
   }
@@ -216,13 +227,14 @@ module _ (s : State) (g : WellFormed s) where
       choice-small = g .sound .choice-small;
       within = map-within 24 _ _;
       file-fits = g .sound .file-fits;
+      right = kept-levelled part24 (s .regs) (s .interrupt) (g .sound .right) new;
     };
     full = g .full;
   }
 
   -- a command that is not reserved
   pub point-keeps : (b : ℕ) → (r : Bool) → reserved part24 b ≡ r
-      → WellFormed (cond r (out Nak (goes s Deaf)) (out Ack (state (s .regs) b (number Filling) (s .choice))) .after)
+      → WellFormed (cond r (out Nak (goes s Deaf)) (out Ack (state (s .regs) (s .interrupt) b (number Filling) (s .choice))) .after)
   point-keeps b true e = to Deaf
   point-keeps b false e = record {
     sound = record {
@@ -232,6 +244,7 @@ module _ (s : State) (g : WellFormed s) where
       choice-small = g .sound .choice-small;
       within = g .sound .within;
       file-fits = g .sound .file-fits;
+      right = g .sound .right;
     };
     full = g .full;
   }
@@ -288,11 +301,18 @@ power-on-fits choice levels hc hl = record {
     pointer-known = refl;
     bus-small = omega arith;
     choice-small = hc;
-    within = record { level-small = hl; reference-small = hl; held-small = pow-pos 24; edge-small = pow-pos 24 };
+    within = small;
     file-fits = refl;
+    right = kept-reset part24 (core [] levelled-at) mapped24 ∙ ap (workedOut part24) (same-core refl (sym (reset-map 24 levelled-at small)));
   };
   full = refl;
 }
+  where
+    levelled-at : Sets
+    levelled-at = record { level = levels; reference = levels; held = 0; edge = 0 }
+
+    small : Within 24 levelled-at
+    small = record { level-small = hl; reference-small = hl; held-small = pow-pos 24; edge-small = pow-pos 24 }
 
 pub run-keeps : (s : State) → WellFormed s → (es : List Asked) → WellFormed (after part24 s es)
 unfolding after
@@ -304,3 +324,14 @@ pub never-broken : (choice levels : ℕ) → choice < 4 → levels < 2 ^ 24 → 
     → imageFits part24 (after part24 (powerOn part24 choice levels) es) ≡ true
 never-broken choice levels hc hl es =
     image-of (after part24 (powerOn part24 choice levels) es) (run-keeps (powerOn part24 choice levels) (power-on-fits choice levels hc hl) es .sound)
+
+-- the status set and the line are what the rules work out: after every step from every well-formed state
+pub kept-right : (s : State) → WellFormed s → (kind arg : ℕ) → stepped part24 s kind arg .after .interrupt ≡ workedOut part24 (stepped part24 s kind arg .after .regs)
+kept-right s g kind arg = stepped-keeps s g kind arg .sound .right
+
+-- and from power-on, after any list of events: the line is INT's then
+pub line-right-from-power-on : (choice levels : ℕ) → choice < 4 → levels < 2 ^ 24 → (es : List Asked)
+    → eqb (after part24 (powerOn part24 choice levels) es .interrupt .line) 0 ≡ intAsserted part24 (after part24 (powerOn part24 choice levels) es .regs)
+line-right-from-power-on choice levels hc hl es =
+    let s = after part24 (powerOn part24 choice levels) es in
+    line-right part24 (s .regs) (s .interrupt) (run-keeps (powerOn part24 choice levels) (power-on-fits choice levels hc hl) es .sound .right)

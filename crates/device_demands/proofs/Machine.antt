@@ -1,63 +1,20 @@
 -- Every event on the device is, at every pin, what happens to that one pin. Assumes nothing.
-use mathlib.Core.Path.{_≡_, refl, sym, ap}
+use mathlib.Core.Path.{_≡_, refl, ap}
 use mathlib.Core.Bool.{Bool, true, false, cond}
 use Prim.Native.Nat.{ℕ, _+_, _<_}
 use lib.Dec.{eqb}
 use lib.ListN.{length}
-use Rattle.bits.proofs.Decide.{eachBool, either-arm}
-use Rattle.bits.specs.Bits.{bit}
-use Rattle.pins.specs.Pin.{reset}
-use Rattle.pins.specs.OnePin.{OnePin, Registers, after, registersAfter, pinAfter}
-use Rattle.pins.specs.OnePin as one
-use Rattle.pins.specs.OnePin.Happening.{LevelTo, InputFetched, Reset, Elsewhere}
-use Rattle.pins.proofs.AllPins.{pin-map}
-use Rattle.map.specs.Map.{Kind, part24, kindAt, reserved, defaults}
-use Rattle.map.specs.Map.Kind.{Reserved, Input, Status, InputStatus, Configuration, Latch, Mask, PortKind, Edge, Clear, Output, Polarity, PinKind, Stored}
-use Rattle.registers.specs.Registers.{Core, registersAt, onePin, ofPort, fetchedAs, fetched, levelled}
-use Rattle.registers.proofs.Written.{same-pin, write-pin}
+use Rattle.bits.proofs.Decide.{either-arm}
+use Rattle.pins.specs.OnePin.{OnePin, after, registersAfter, pinAfter}
+use Rattle.pins.specs.OnePin.Happening.{Reset, Elsewhere}
+use Rattle.map.specs.Map.{part24, reserved}
+use Rattle.registers.specs.Registers.{Core, onePin}
+use Rattle.registers.proofs.Pinwise.{mapped24}
+use Rattle.registers.proofs.Written.{write-pin, fetch-pin, level-pin, reset-pin}
 use Rattle.device_rules.specs.Device.{State, Event, Bus, Outcome, busAt, number, goes, addressByte, byteIn, fetchIn, resetted, step}
 use Rattle.device_rules.specs.Device.Bus.{Idle, Opened, Chosen, Filling, Sending, Call, Armed, Deaf}
 use Rattle.device_rules.specs.Device.Event.{Start, Stop, HardwareReset, ByteSent, ByteFetched, Levels}
 use Rattle.device_demands.specs.Happens.{sentIn, fetchedIn, happensTo}
-
--- a fetch changes no register
-fetch-registers : (k : Kind) (n i : ℕ) (v : Registers) → registersAfter (fetchedAs part24 k n i) v ≡ v
-unfolding fetchedAs registersAfter
-fetch-registers Input n i v = here (ofPort part24 Input n i)
-  where
-    here : (b : Bool) → registersAfter (cond b InputFetched Elsewhere) v ≡ v
-    here true = refl
-    here false = refl
-fetch-registers Reserved n i v = refl
-fetch-registers Status n i v = refl
-fetch-registers InputStatus n i v = refl
-fetch-registers Configuration n i v = refl
-fetch-registers Latch n i v = refl
-fetch-registers Mask n i v = refl
-fetch-registers PortKind n i v = refl
-fetch-registers Edge n i v = refl
-fetch-registers Clear n i v = refl
-fetch-registers Output n i v = refl
-fetch-registers Polarity n i v = refl
-fetch-registers PinKind n i v = refl
-fetch-registers Stored n i v = refl
-
--- the defaults of the file are the defaults of each pin
-reset-registers : (i : ℕ) → i < 24 → registersAt part24 (defaults part24) i ≡ one.defaults
-unfolding defaults bit
-reset-registers i h = λ j. record {
-  source = record {
-    configuration = eachBool 24 (λ i. registersAt part24 (defaults part24) i .source .configuration) (λ i. true) tt i h j;
-    mask = eachBool 24 (λ i. registersAt part24 (defaults part24) i .source .mask) (λ i. true) tt i h j;
-    latch = eachBool 24 (λ i. registersAt part24 (defaults part24) i .source .latch) (λ i. false) tt i h j;
-    rising = eachBool 24 (λ i. registersAt part24 (defaults part24) i .source .rising) (λ i. false) tt i h j;
-    falling = eachBool 24 (λ i. registersAt part24 (defaults part24) i .source .falling) (λ i. false) tt i h j;
-  };
-  output = eachBool 24 (λ i. registersAt part24 (defaults part24) i .output) (λ i. true) tt i h j;
-  polarity = eachBool 24 (λ i. registersAt part24 (defaults part24) i .polarity) (λ i. false) tt i h j;
-  portKind = eachBool 24 (λ i. registersAt part24 (defaults part24) i .portKind) (λ i. false) tt i h j;
-  pinKind = eachBool 24 (λ i. registersAt part24 (defaults part24) i .pinKind) (λ i. false) tt i h j;
-}
 
 module _ (s : State) (i : ℕ) (hi : i < 24) where
   abbrev P : Core → OnePin
@@ -71,15 +28,9 @@ module _ (s : State) (i : ℕ) (hi : i < 24) where
   unfolding registersAfter pinAfter
   stays e = ap P e
 
-  reset-pin : P (resetted part24 s .regs) ≡ after Reset (P (s .regs))
-  unfolding resetted registersAfter pinAfter
-  reset-pin = same-pin (reset-registers i hi) (pin-map 24 (s .regs .sets) (λ i. reset) i hi)
-
-  fetch-pin : P (fetched part24 (s .regs) (s .pointer)) ≡ after (fetchedAs part24 (kindAt part24 (s .pointer)) (s .pointer) i) (P (s .regs))
-  unfolding fetched
-  fetch-pin =
-      same-pin (sym (fetch-registers (kindAt part24 (s .pointer)) (s .pointer) i (registersAt part24 (s .regs .file) i)))
-      (pin-map 24 (s .regs .sets) (λ i. pinAfter (fetchedAs part24 (kindAt part24 (s .pointer)) (s .pointer) i) (registersAt part24 (s .regs .file) i)) i hi)
+  reset : P (resetted part24 s .regs) ≡ after Reset (P (s .regs))
+  unfolding resetted
+  reset = reset-pin part24 (s .regs) i hi mapped24
 
   byte-pin : length (s .regs .file) ≡ 128 → s .pointer < 128 → (k : Bus) (b : ℕ)
       → P (byteIn part24 k s b .after .regs) ≡ after (sentIn part24 k s b i) (P (s .regs))
@@ -89,7 +40,7 @@ module _ (s : State) (i : ℕ) (hi : i < 24) where
       stays (either-arm Same (eqb b (addressByte s)) refl
       (either-arm Same (eqb b (addressByte s + 1)) refl (either-arm Same (eqb b 0x00) refl refl)))
   byte-pin full hn Chosen b = stays (either-arm Same (reserved part24 b) refl refl)
-  byte-pin full hn Filling b = write-pin (s .regs) i hi full (s .pointer) hn b
+  byte-pin full hn Filling b = write-pin part24 (s .regs) i hi mapped24 full (s .pointer) hn b
   byte-pin full hn Sending b = stays refl
   byte-pin full hn Call b = stays (either-arm Same (eqb b 0x06) refl refl)
   byte-pin full hn Armed b = stays refl
@@ -97,8 +48,8 @@ module _ (s : State) (i : ℕ) (hi : i < 24) where
 
   sent-back : (k : Bus) (acknowledged : Bool) → P (fetchIn part24 k s acknowledged .after .regs) ≡ after (fetchedIn part24 k s i) (P (s .regs))
   unfolding fetchIn fetchedIn
-  sent-back Sending true = fetch-pin
-  sent-back Sending false = fetch-pin
+  sent-back Sending true = fetch-pin part24 (s .regs) i hi (s .pointer)
+  sent-back Sending false = fetch-pin part24 (s .regs) i hi (s .pointer)
   sent-back Idle acknowledged = stays refl
   sent-back Opened acknowledged = stays refl
   sent-back Chosen acknowledged = stays refl
@@ -108,18 +59,15 @@ module _ (s : State) (i : ℕ) (hi : i < 24) where
   sent-back Deaf acknowledged = stays refl
 
   stop-pin : (armed : Bool) → P (cond armed (resetted part24 s) (goes s Idle) .regs) ≡ after (cond armed Reset Elsewhere) (P (s .regs))
-  stop-pin true = reset-pin
+  stop-pin true = reset
   stop-pin false = stays refl
 
   pub as-one-pin : length (s .regs .file) ≡ 128 → s .pointer < 128 → (e : Event)
       → P (step part24 s e .after .regs) ≡ after (happensTo part24 s e i) (P (s .regs))
-  unfolding step happensTo levelled registersAfter
+  unfolding step happensTo
   as-one-pin full hn Start = stays refl
   as-one-pin full hn Stop = stop-pin (eqb (s .bus) (number Armed))
-  as-one-pin full hn HardwareReset = reset-pin
+  as-one-pin full hn HardwareReset = reset
   as-one-pin full hn (ByteSent b) = byte-pin full hn (busAt (s .bus)) b
   as-one-pin full hn (ByteFetched acknowledged) = sent-back (busAt (s .bus)) acknowledged
-  as-one-pin full hn (Levels new) = level-pin new
-    where
-      level-pin : (new : ℕ) → P (levelled part24 (s .regs) new) ≡ after (LevelTo (bit new i)) (P (s .regs))
-      level-pin new = same-pin refl (pin-map 24 (s .regs .sets) (λ i. pinAfter (LevelTo (bit new i)) (registersAt part24 (s .regs .file) i)) i hi)
+  as-one-pin full hn (Levels new) = level-pin part24 (s .regs) i hi new

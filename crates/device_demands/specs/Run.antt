@@ -84,7 +84,7 @@ unrefused [] = []
 unrefused (x ∷ xs) = record { answer = x .answer; low = driven 0 (x .low); high = driven 0 (x .high); int = line 0 (x .int) } ∷ unrefused xs
 
 -- ---- what the code's types hold
--- a device: 128 bytes, four pin sets of 64 bits, three bytes
+-- a device: 128 bytes, five pin sets of 64 bits, four bytes
 pub record Represented (d : Device) : Type 0 where
   pub entries : length (d .file) ≡ 128
   pub bytes : (n : ℕ) → getD (d .file) n 0 < 2 ^ 8
@@ -95,6 +95,8 @@ pub record Represented (d : Device) : Type 0 where
   pub pointer : d .pointer < 2 ^ 8
   pub bus : d .bus < 2 ^ 8
   pub choice : d .choice < 2 ^ 8
+  pub status : d .status < 2 ^ 64
+  pub line : d .line < 2 ^ 8
 
 -- events: a kind of 32 bits, an argument of 64
 abbrev pub Askable : List Asked → Type 0

@@ -5,9 +5,15 @@ use Prim.Native.Nat.{ℕ, zero, suc, _+_, _*_, _<_}
 use Rattle.bits.specs.Bits.{val}
 use Rattle.map.specs.Map.{Part, next}
 use Rattle.registers.specs.Registers.{Core, written, fetched, shown}
+use Rattle.registers.specs.Interrupt.{workedOut}
+use Rattle.device_rules.specs.Device.{State, state}
 use Rattle.device_rules.specs.declared.Answer.{Answer}
 use Rattle.device_rules.specs.declared.Answer.the-variants.{Ack, Byte}
 use Rattle.device_demands.specs.Run.{Asked}
+
+-- a state whose status set and line are what the rules work out
+abbrev pub rightly : Part → Core → (pointer bus choice : ℕ) → State
+rightly p r pointer bus choice = state r (workedOut p r) pointer bus choice
 
 abbrev pub ask : (kind arg : ℕ) → Asked
 ask kind arg = record { kind = kind; arg = arg }

@@ -8,6 +8,7 @@ use lib.Dec.{ltb}
 use borrow.Author.Tests.{lt-ltb, le-ltb, lt-leb, le-leb}
 use Rattle.map.specs.Map.{part24, defaults}
 use Rattle.registers.specs.Registers.{core}
+use Rattle.registers.specs.Interrupt.{quiet}
 use Rattle.registers.proofs.Writing.{same}
 use Rattle.device_rules.specs.Device.{State, state}
 use Rattle.device_rules.specs.Refusals.{imageFits}
@@ -26,11 +27,11 @@ module _ (choice levels : ℕ) where
   none-over fits h = simp (le-leb choice 3 (omega arith), lt-ltb levels (2 ^ 24) h)
 
   abbrev at-power-on : List ℕ → State
-  at-power-on file = state (core file (record { level = levels; reference = levels; held = 0; edge = 0 })) 0 0 choice
+  at-power-on file = state (core file (record { level = levels; reference = levels; held = 0; edge = 0 })) quiet 0 0 choice
 
   pub made-of : {n : ℕ} {file : List ℕ} → n ≡ makingRefused part24 choice levels → file ≡ defaults part24 → MadeOf part24 choice levels n (at-power-on file)
   unfolding powerOn
-  made-of {n} {file} q e = record { number = q; made = same-state (same e refl) refl refl refl; none = λ z. fits-not z (imageFits part24 (at-power-on file)) refl }
+  made-of {n} {file} q e = record { number = q; made = same-state (same e refl) refl refl refl refl; none = λ z. fits-not z (imageFits part24 (at-power-on file)) refl }
     where
       fits-not : makingRefused part24 choice levels ≡ 2 → (b : Bool) → imageFits part24 (at-power-on file) ≡ b → imageFits part24 (at-power-on file) ≡ false
       fits-not z true i =

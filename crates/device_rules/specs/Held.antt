@@ -6,11 +6,12 @@ use Prim.Native.Nat.{ℕ, _<_}
 use Rattle.pins.specs.AllPins.{Within}
 use Rattle.map.specs.Map.{Part, reserved, fileFits}
 use Rattle.registers.specs.Registers.{core}
+use Rattle.registers.specs.Interrupt.{interrupt, workedOut}
 use Rattle.device_rules.specs.Device.{State, state}
 use Rattle.device_rules.specs.declared.Rest.{Rest}
 
 abbrev pub stateOf : List ℕ → Rest → State
-stateOf file r = state (core file (r .sets)) (r .pointer) (r .bus) (r .choice)
+stateOf file r = state (core file (r .sets)) (interrupt (r .status) (r .line)) (r .pointer) (r .bus) (r .choice)
 
 pub record Sound (p : Part) (s : State) : Type 0 where
   pub pointer-small : s .pointer < 128
@@ -19,3 +20,4 @@ pub record Sound (p : Part) (s : State) : Type 0 where
   pub choice-small : s .choice < 4
   pub within : Within (p .width) (s .regs .sets)
   pub file-fits : fileFits p (s .regs .file) ≡ true
+  pub right : s .interrupt ≡ workedOut p (s .regs)

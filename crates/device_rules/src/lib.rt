@@ -16,7 +16,12 @@ pub struct Rest {
     pub pointer: u8,
     pub bus: u8,
     pub choice: u8,
+    pub status: u64,
+    pub line: u8,
 }
+
+// The line, INT's level, where no status bit is 1.
+pub const QUIET: u8 = 1;
 
 // Event kinds.
 pub const START: u32 = 0;

@@ -14,8 +14,10 @@ use words::CHOICE;
 use words::EDGE;
 use words::HELD;
 use words::LEVEL;
+use words::LINE;
 use words::POINTER;
 use words::REFERENCE;
+use words::STATUS;
 
 // Refusals as the header has them.
 const DONE: u32 = 0;
@@ -107,9 +109,9 @@ pub extern "C" fn ghixramel_pack(
     words: &mut [u64; 28],
     pins: &[u64; 4],
     registers: &[u8; 128],
-    bus: &[u64; 3],
+    rest: &[u64; 5],
 ) -> u32
-    ensures { λ r. ⌜ FromImage (imageIn (now (pins .entry)) (now (registers .entry)) (now (bus .entry))) r (now (words .entry)) (now (words .exit)) ⌝ }
+    ensures { λ r. ⌜ FromImage (imageIn (now (pins .entry)) (now (registers .entry)) (now (rest .entry))) r (now (words .entry)) (now (words .exit)) ⌝ }
 {
     let sets = Sets {
         level: pins[0],
@@ -117,7 +119,17 @@ pub extern "C" fn ghixramel_pack(
         held: pins[2],
         edge: pins[3],
     };
-    if words_images::pack(words, 0, registers, sets, bus[0], bus[1], bus[2]) {
+    if words_images::pack(
+        words,
+        0,
+        registers,
+        sets,
+        rest[0],
+        rest[1],
+        rest[2],
+        rest[3],
+        rest[4],
+    ) {
         return DONE;
     }
     BAD_IMAGE
@@ -129,17 +141,23 @@ pub extern "C" fn ghixramel_unpack(
     words: &[u64; 28],
     pins: &mut [u64; 4],
     registers: &mut [u8; 128],
-    bus: &mut [u64; 3],
+    rest: &mut [u64; 5],
 ) -> u32
-    ensures { λ r. ⌜ ToImage (now (words .entry)) r (now (pins .entry)) (now (registers .entry)) (now (bus .entry))
-        (now (pins .exit)) (now (registers .exit)) (now (bus .exit)) ⌝ }
+    ensures { λ r. ⌜ ToImage (now (words .entry)) r (now (pins .entry)) (now (registers .entry)) (now (rest .entry))
+        (now (pins .exit)) (now (registers .exit)) (now (rest .exit)) ⌝ }
 {
     if !words_fits::fits(words, 0) {
         return BAD_IMAGE;
     }
     words_images::to_file(words, 0, registers);
     *pins = [words[LEVEL], words[REFERENCE], words[HELD], words[EDGE]];
-    *bus = [words[POINTER], words[BUS], words[CHOICE]];
+    *rest = [
+        words[POINTER],
+        words[BUS],
+        words[CHOICE],
+        words[STATUS],
+        words[LINE],
+    ];
     DONE
 }
 

@@ -8,8 +8,8 @@ use lib.Dec.{eqb, ltb}
 use lib.ListN.{length, getD}
 use Rattle.bits.proofs.Decide.{clash}
 use Rattle.map.specs.Map.{part24, reserved}
-use Rattle.registers.specs.Registers.{core, shown}
-use Rattle.device_rules.specs.Device.{State, Outcome, state}
+use Rattle.registers.specs.Registers.{core}
+use Rattle.device_rules.specs.Device.{State, Outcome, state, shownIn}
 use Rattle.device_rules.specs.Answers.{refusalNumber}
 use Rattle.device_rules.specs.declared.Answer.{Answer}
 use Rattle.device_rules.specs.declared.Answer.the-variants.{Nothing, Ack, Nak, Byte, Refused}
@@ -23,7 +23,7 @@ use Rattle.planner_promise.specs.Answer.{answerOf, Answers}
 use Rattle.planner_promise.specs.Answer.Answer.{refuse, give}
 use Rattle.planner_promise.specs.Promise.{refusalOf, countOf, Promise}
 use Rattle.planner_promise.specs.declared.Planned.{Planned}
-use Rattle.words.specs.Words.{fileOf, setsIn}
+use Rattle.words.specs.Words.{fileOf, setsIn, interruptIn}
 use Rattle.words_bus.specs.Packed.{stateIn, Packed, Steps}
 use Rattle.words_images.specs.Images.{Packs}
 use Rattle.host_words.specs.Host.{toldAs, Told, Made, Seen, Shown, FromImage, ToImage, writesAfter, plannedAs, countIn}
@@ -80,7 +80,7 @@ pub both-told : {l m h k : ℕ} → l ≡ m → h ≡ k → l ∷ h ∷ [] ≡ m
 both-told = ap₂ (λ (l h : ℕ). l ∷ h ∷ [])
 
 module _ (w : List ℕ) (n : ℕ) (lent : List ℕ) where
-  pub shown-here : (lent' : List ℕ) → Packed 0 w → reserved part24 n ≡ false → lent' ≡ shown part24 (stateIn part24 w .regs) n ∷ [] → Shown w n 0 lent lent'
+  pub shown-here : (lent' : List ℕ) → Packed 0 w → reserved part24 n ≡ false → lent' ≡ shownIn part24 (stateIn part24 w) n ∷ [] → Shown w n 0 lent lent'
   shown-here lent' k e q = record { seen = λ k. (simp e, q ∙ simp e); broken = λ z. absurd (z k) }
 
   pub no-register : Packed 0 w → reserved part24 n ≡ true → Shown w n 2 lent lent
@@ -100,15 +100,16 @@ from-image image w w' p = record { packed = λ h. (refl, p .packed refl .0, p .p
 pub from-none : (image : State) (w w' : List ℕ) → Packs 0 image false w w' → FromImage image 3 w w'
 from-none image w w' p = record { packed = λ h. clash (imageFits part24 image) h (sym (p .judged)); broken = λ h. (refl, p .unchanged refl) }
 
-module _ (w pins file bus : List ℕ) where
+module _ (w pins file rest : List ℕ) where
   pub to-image : (file' : List ℕ) → Packed 0 w → file' ≡ fileOf part24 w
-      → ToImage w 0 pins file bus (getD w 0 0 ∷ getD w 1 0 ∷ getD w 2 0 ∷ getD w 3 0 ∷ []) file' (getD w 21 0 ∷ getD w 22 0 ∷ getD w 23 0 ∷ [])
+      → ToImage w 0 pins file rest (getD w 0 0 ∷ getD w 1 0 ∷ getD w 2 0 ∷ getD w 3 0 ∷ []) file'
+      (getD w 21 0 ∷ getD w 22 0 ∷ getD w 23 0 ∷ getD w 19 0 ∷ getD w 20 0 ∷ [])
   to-image file' k e = record {
-    unpacked = λ k. (refl, ap (λ (f : List ℕ). state (core f (setsIn w)) (getD w 21 0) (getD w 22 0) (getD w 23 0)) e);
+    unpacked = λ k. (refl, ap (λ (f : List ℕ). state (core f (setsIn w)) (interruptIn w) (getD w 21 0) (getD w 22 0) (getD w 23 0)) e);
     broken = λ z. absurd (z k);
   }
 
-  pub to-none : (Packed 0 w → ⊥) → ToImage w 3 pins file bus pins file bus
+  pub to-none : (Packed 0 w → ⊥) → ToImage w 3 pins file rest pins file rest
   to-none z = record { unpacked = λ k. absurd (z k); broken = λ z. (refl, refl, refl, refl) }
 
 -- ---- plans

@@ -6,8 +6,9 @@ use Prim.Native.Nat.{ℕ}
 use lib.Dec.{eqb}
 use lib.ListN.{getD}
 use Rattle.map.specs.Map.{part24, reserved}
-use Rattle.registers.specs.Registers.{core, drivenLow, drivenHigh, intAsserted, shown}
-use Rattle.device_rules.specs.Device.{State, Outcome, state}
+use Rattle.registers.specs.Registers.{core, drivenLow, drivenHigh, intAsserted}
+use Rattle.registers.specs.Interrupt.{interrupt}
+use Rattle.device_rules.specs.Device.{State, Outcome, state, shownIn}
 use Rattle.device_rules.specs.Answers.{answerKind, answerByte, refusalNumber}
 use Rattle.device_rules.specs.declared.Answer.{Answer}
 use Rattle.device_rules.specs.Refusals.{imageFits, stepped}
@@ -54,14 +55,14 @@ intOf s = cond (intAsserted part24 (s .regs)) 1 0 ∷ []
 -- the byte of one register: after 3 also 2, for a number that is reserved or over 7Fh
 pub record Shown (w : List ℕ) (n number : ℕ) (lent lent' : List ℕ) : Type 0 where
   pub seen : Packed 0 w
-      → (number ≡ cond (reserved part24 n) 2 0) × (lent' ≡ cond (reserved part24 n) lent (shown part24 (stateIn part24 w .regs) n ∷ []))
+      → (number ≡ cond (reserved part24 n) 2 0) × (lent' ≡ cond (reserved part24 n) lent (shownIn part24 (stateIn part24 w) n ∷ []))
   pub broken : (Packed 0 w → ⊥) → (number ≡ 3) × (lent' ≡ lent)
 
--- ---- images: the pin sets in the order level, reference, held, edge; the registers; pointer, bus state, address choice
-abbrev pub imageIn : (pins file bus : List ℕ) → State
-imageIn pins file bus =
+-- ---- images: the pin sets in the order level, reference, held, edge; the registers; pointer, bus state, address choice, status, line
+abbrev pub imageIn : (pins file rest : List ℕ) → State
+imageIn pins file rest =
     state (core file (record { level = getD pins 0 0; reference = getD pins 1 0; held = getD pins 2 0; edge = getD pins 3 0 }))
-    (getD bus 0 0) (getD bus 1 0) (getD bus 2 0)
+    (interrupt (getD rest 3 0) (getD rest 4 0)) (getD rest 0 0) (getD rest 1 0) (getD rest 2 0)
 
 -- an image to words: 3 if it may not stand, and then the words stay
 pub record FromImage (image : State) (number : ℕ) (w w' : List ℕ) : Type 0 where
@@ -69,9 +70,9 @@ pub record FromImage (image : State) (number : ℕ) (w w' : List ℕ) : Type 0 w
   pub broken : imageFits part24 image ≡ false → (number ≡ 3) × (w' ≡ w)
 
 -- words to an image: 3 if they are packed of none, and then what was lent for it stays as it was
-pub record ToImage (w : List ℕ) (number : ℕ) (pins file bus pins' file' bus' : List ℕ) : Type 0 where
-  pub unpacked : Packed 0 w → (number ≡ 0) × (imageIn pins' file' bus' ≡ stateIn part24 w)
-  pub broken : (Packed 0 w → ⊥) → (number ≡ 3) × (pins' ≡ pins) × (file' ≡ file) × (bus' ≡ bus)
+pub record ToImage (w : List ℕ) (number : ℕ) (pins file rest pins' file' rest' : List ℕ) : Type 0 where
+  pub unpacked : Packed 0 w → (number ≡ 0) × (imageIn pins' file' rest' ≡ stateIn part24 w)
+  pub broken : (Packed 0 w → ⊥) → (number ≡ 3) × (pins' ≡ pins) × (file' ≡ file) × (rest' ≡ rest)
 
 -- ---- plans
 -- how many writes there are, stored beside the plan; a refusal leaves what was lent for it as it was

@@ -1,4 +1,5 @@
 pub mod AllPins
 pub mod Causes
+pub mod Kept
 pub mod Points
 pub mod Rules

@@ -20,6 +20,7 @@ use Rattle.ports.specs.Ports.{portBit}
 use Rattle.map.specs.Map.{Kind, part24, kindAt, code, stored}
 use Rattle.map.specs.Map.Kind.{Reserved, Input, Status, InputStatus, Configuration, Latch, Mask, PortKind, Edge, Clear, Output, Polarity, PinKind, Stored}
 use Rattle.registers.specs.Registers.{Core, onePin, ofPort, writtenTo, writtenAs, written, keptAs}
+use Rattle.registers.proofs.Pinwise.{mapped24}
 use Rattle.registers.proofs.Written.{write-pin}
 use Rattle.planner_quiet.specs.Settings.{shape24, Settings, driveIn, Write, place, placeOf, put, run, nth}
 use Rattle.planner_quiet.specs.Settings as set24
@@ -238,7 +239,7 @@ input-rests Stored n v i x t was now = clash false t refl
 pub status-rests : (s : Core) (w : Write) → length (s .file) ≡ 128 → isPlanned (w .register) → (i : ℕ) → i < 24
     → inputAt s i ≡ true → inputAt (written part24 s (w .register) (w .value)) i ≡ true → statusAt (written part24 s (w .register) (w .value)) i ≡ statusAt s i
 status-rests s w full h i hi was now =
-    let e = write-pin s i hi full (w .register) (planned-small (w .register) h) (w .value) in
+    let e = write-pin part24 s i hi mapped24 full (w .register) (planned-small (w .register) h) (w .value) in
     ap statusOf e
     ∙ input-rests (kindAt part24 (w .register)) (w .register) (w .value) i (onePin part24 s i) (planned-kind (w .register) h) was
     (ap (λ (x : OnePin). x .registers .source .configuration) (sym e) ∙ now)

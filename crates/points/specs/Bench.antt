@@ -58,6 +58,13 @@ pointerIs o = o .after .pointer
 abbrev pub intIs : Outcome → ℕ
 intIs o = val (intAsserted part24 (o .after .regs))
 
+-- what is kept of the interrupt: the status set, and the line, 0 asserted
+abbrev pub keptStatusIs : Outcome → ℕ
+keptStatusIs o = o .after .interrupt .status
+
+abbrev pub keptLineIs : Outcome → ℕ
+keptLineIs o = o .after .interrupt .line
+
 abbrev pub highIs : Outcome → ℕ
 highIs o = drivenHigh part24 (o .after .regs)
 
@@ -111,6 +118,14 @@ cases =
     -- rising field, latch 0, unmasked, 0, 1, 0: INT stays asserted; masked during it, unmasked after: quiet
     ∷ case (write 0x54 0xfe ++ (write 0x60 0x01 ++ (levels 1 ∷ levels 0 ∷ []))) intIs 1
     ∷ case (write 0x60 0x01 ++ (levels 1 ∷ levels 0 ∷ write 0x54 0xfe)) intIs 0
+    -- what is kept of the interrupt: quiet at power-on, asserted as the pin leaves its reference, quiet once it is fetched, masked or reset
+    ∷ case [] keptLineIs 1
+    ∷ case (write 0x54 0xfe ++ (levels 1 ∷ [])) keptStatusIs 0x00_0001
+    ∷ case (write 0x54 0xfe ++ (levels 1 ∷ [])) keptLineIs 0
+    ∷ case (write 0x54 0xfe ++ (levels 1 ∷ readOver 0 0x58 false)) byteIs 0x01
+    ∷ case (write 0x54 0xfe ++ (levels 1 ∷ readOver 0 0x00 false)) keptLineIs 1
+    ∷ case (write 0x54 0xfe ++ (levels 1 ∷ write 0x54 0xff)) keptStatusIs 0x00_0000
+    ∷ case (write 0x54 0xfe ++ (levels 1 ∷ ask 5 0 ∷ [])) keptLineIs 1
     -- 00h, 06h, START, STOP: no reset; 00h, 06h, STOP: reset
     ∷ case (write 0x04 0x00 ++ (START ∷ sent 0x00 ∷ sent 0x06 ∷ START ∷ STOP ∷ [])) (registerIs 0x04) 0x00
     ∷ case (write 0x04 0x00 ++ (START ∷ sent 0x00 ∷ sent 0x06 ∷ STOP ∷ [])) (registerIs 0x04) 0xff

@@ -51,9 +51,13 @@ pub sets-text : (l r h e : ℕ) → field 16 l ++ (field 16 r ++ (field 16 h ++ 
 unfolding fieldsText
 sets-text l r h e = rw (append-nil (hexText 16 e))
 
-pub bus-text : (p b c : ℕ) → field 2 p ++ (field 2 b ++ field 2 c) ≡ fieldsText (drop 5 widths) (p ∷ b ∷ c ∷ [])
+pub bus-text : (p b c : ℕ) → field 2 p ++ (field 2 b ++ field 2 c) ≡ fieldsText (take 3 (drop 5 widths)) (p ∷ b ∷ c ∷ [])
 unfolding fieldsText
 bus-text p b c = rw (append-nil (hexText 2 c))
+
+pub interrupt-text : (s l : ℕ) → field 16 s ++ field 2 l ≡ fieldsText (drop 8 widths) (s ∷ l ∷ [])
+unfolding fieldsText
+interrupt-text s l = rw (append-nil (hexText 2 l))
 
 -- fields after fields
 pub fields-both : (ws ns vs ms : List ℕ) → length ws ≡ length ns → fieldsText ws ns ++ fieldsText vs ms ≡ fieldsText (ws ++ vs) (ns ++ ms)

@@ -25,13 +25,17 @@ pub const BUS_AT: usize = 328;
 
 pub const CHOICE_AT: usize = 331;
 
-pub const KIND_AT: usize = 334;
+pub const STATUS_AT: usize = 334;
 
-pub const ARGUMENT_AT: usize = 343;
+pub const LINE_AT: usize = 351;
+
+pub const KIND_AT: usize = 354;
+
+pub const ARGUMENT_AT: usize = 363;
 
 // Whether a tab stands at this place of a line.
 fn is_tab(i: usize) -> bool
-    requires { ⌜ i < 359 ⌝ }
+    requires { ⌜ i < 379 ⌝ }
     ensures { λ r. ⌜ r ≡ getD lineForm i false ⌝ }
 {
     (i == 256)
@@ -42,7 +46,9 @@ fn is_tab(i: usize) -> bool
         | (i == 327)
         | (i == 330)
         | (i == 333)
-        | (i == 342)
+        | (i == 350)
+        | (i == 353)
+        | (i == 362)
 }
 
 // Whether the byte is a tab, or a digit.
@@ -59,11 +65,11 @@ fn byte_fits(tab: bool, b: u8) -> bool
 pub fn is_readable(line: &[u8]) -> bool
     ensures { λ r. ⌜ r ≡ readable (now (line .entry)) ⌝ }
 {
-    if line.len() != 359 {
+    if line.len() != 379 {
         return false;
     }
     let mut i = 0;
-    while i < 359 {
+    while i < 379 {
         if !byte_fits(is_tab(i), line[i]) {
             return false;
         }
@@ -103,15 +109,15 @@ pub fn word_at(line: &[u8], at: usize) -> u64
 
 // An event's kind.
 pub fn kind_in(line: &[u8]) -> u32
-    requires { ⌜ length (now line) ≡ 359 ⌝ }
-    ensures { λ r. ⌜ r ≡ numberIn (now (line .entry)) 8 ⌝ }
+    requires { ⌜ length (now line) ≡ 379 ⌝ }
+    ensures { λ r. ⌜ r ≡ numberIn (now (line .entry)) 10 ⌝ }
 {
     number_at(line, KIND_AT, 8, 0xffff_ffff) as u32
 }
 
 // The registers.
 pub fn file_in(line: &[u8]) -> [u8; 128]
-    requires { ⌜ length (now line) ≡ 359 ⌝ }
+    requires { ⌜ length (now line) ≡ 379 ⌝ }
     ensures { λ r. ⌜ r ≡ bytesAt (now (line .entry)) 0 128 ⌝ }
 {
     let mut file = [0u8; 128];
@@ -165,9 +171,18 @@ pub fn put_sets(
 
 pub fn put_bus(out: &mut [u8], at: usize, pointer: u8, bus: u8, choice: u8) -> usize
     requires { ⌜ at + 9 ≤ length (now out) ⌝ }
-    ensures { λ r. ⌜ Wrote (now (out .entry)) at (fieldsText (drop 5 widths) (pointer ∷ bus ∷ choice ∷ [])) r (now (out .exit)) × (r ≡ at + 9) ⌝ }
+    ensures { λ r. ⌜ Wrote (now (out .entry)) at (fieldsText (take 3 (drop 5 widths)) (pointer ∷ bus ∷ choice ∷ [])) r (now (out .exit)) × (r ≡ at + 9) ⌝ }
 {
     let first = put_field(out, at, 2, pointer as u64);
     let second = put_field(out, first, 2, bus as u64);
     put_field(out, second, 2, choice as u64)
+}
+
+// What is kept of the interrupt.
+pub fn put_interrupt(out: &mut [u8], at: usize, status: u64, line: u8) -> usize
+    requires { ⌜ at + 20 ≤ length (now out) ⌝ }
+    ensures { λ r. ⌜ Wrote (now (out .entry)) at (fieldsText (drop 8 widths) (status ∷ line ∷ [])) r (now (out .exit)) × (r ≡ at + 20) ⌝ }
+{
+    let first = put_field(out, at, 16, status);
+    put_field(out, first, 2, line as u64)
 }

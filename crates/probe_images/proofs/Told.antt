@@ -18,7 +18,8 @@ use Rattle.text_answers.specs.Answers.{unlessRefused, answerText, newline, show
 use Rattle.text_answers.proofs.Laws.{answered, told-text}
 use Rattle.device_rules.specs.Device.{State, out as outcome}
 use Rattle.device_rules.specs.Refusals.{imageFits}
-use Rattle.words.specs.Words.{coreIn, Fit}
+use Rattle.registers.specs.Interrupt.{workedOut}
+use Rattle.words.specs.Words.{coreIn, interruptIn, Fit}
 use Rattle.words_images.specs.Images.{Packs}
 use Rattle.probe_fields.specs.Fields.{widths, bytesText, fieldsText}
 use Rattle.probe_fields.proofs.Writing.{fields-both}
@@ -27,20 +28,24 @@ use Rattle.probe_images.specs.Images.{imageText, probeLine}
 pub image-text : (s : State)
     → 0x09 ∷ bytesText (s .regs .file)
     ++ (fieldsText (take 4 (drop 1 widths)) (s .regs .sets .level ∷ s .regs .sets .reference ∷ s .regs .sets .held ∷ s .regs .sets .edge ∷ [])
-    ++ fieldsText (drop 5 widths) (s .pointer ∷ s .bus ∷ s .choice ∷ []))
+    ++ (fieldsText (take 3 (drop 5 widths)) (s .pointer ∷ s .bus ∷ s .choice ∷ []) ++ fieldsText (drop 8 widths) (s .interrupt .status ∷ s .interrupt .line ∷ [])))
     ≡ imageText s
 unfolding imageText
 image-text s =
+    let bus : List ℕ = s .pointer ∷ s .bus ∷ s .choice ∷ [] in
+    let kept : List ℕ = s .interrupt .status ∷ s .interrupt .line ∷ [] in
+    let sets : List ℕ = s .regs .sets .level ∷ s .regs .sets .reference ∷ s .regs .sets .held ∷ s .regs .sets .edge ∷ [] in
     ap (λ (x : List ℕ). 0x09 ∷ bytesText (s .regs .file) ++ x)
-    (fields-both (take 4 (drop 1 widths)) (s .regs .sets .level ∷ s .regs .sets .reference ∷ s .regs .sets .held ∷ s .regs .sets .edge ∷ []) (drop 5 widths) (s .pointer ∷ s .bus ∷ s .choice ∷ []) refl)
+    (ap (λ (x : List ℕ). fieldsText (take 4 (drop 1 widths)) sets ++ x) (fields-both (take 3 (drop 5 widths)) bus (drop 8 widths) kept refl)
+    ∙ fields-both (take 4 (drop 1 widths)) sets (drop 5 widths) (bus ++ kept) refl)
 
 -- ---- an answer by the words that the image was packed into: a refusal shows nothing of them
-module _ {s : State} {fits : Bool} {v w : List ℕ} (p : Packs 0 s fits v w) (int : Bool) (low high : ℕ) (i : Fit part24 w → int ≡ intAsserted part24 (coreIn part24 w))
+module _ {s : State} {fits : Bool} {v w : List ℕ} (p : Packs 0 s fits v w) (int : Bool) (low high : ℕ) (i : interruptIn w ≡ workedOut part24 (coreIn part24 w) → int ≡ intAsserted part24 (coreIn part24 w))
     (l : low ≡ drivenLow part24 (coreIn part24 w)) (h : Fit part24 w → high ≡ drivenHigh part24 (coreIn part24 w)) where
   fitting-text : (a : Answer) → imageFits part24 s ≡ true → answerText a int low high ≡ shownText (outcome a s)
   fitting-text a e =
       let k = p .packed (p .judged ∙ e) in
-      told-text a s int low high (i (k .0 .fit) ∙ ap (λ (x : State). intAsserted part24 (x .regs)) (k .1)) (l ∙ ap (λ (x : State). drivenLow part24 (x .regs)) (k .1))
+      told-text a s int low high (i (k .0 .right) ∙ ap (λ (x : State). intAsserted part24 (x .regs)) (k .1)) (l ∙ ap (λ (x : State). drivenLow part24 (x .regs)) (k .1))
       (h (k .0 .fit) ∙ ap (λ (x : State). drivenHigh part24 (x .regs)) (k .1))
 
   pub words-text : (a : Answer) → (refusalNumber a ≡ 0 → imageFits part24 s ≡ true) → answerText a int low high ≡ shownText (outcome a s)

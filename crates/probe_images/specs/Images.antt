@@ -6,6 +6,7 @@ use lib.ListN.{drop}
 use Rattle.pins.specs.declared.Sets.{Sets}
 use Rattle.map.specs.Map.{part24}
 use Rattle.registers.specs.Registers.{core}
+use Rattle.registers.specs.Interrupt.{interrupt}
 use Rattle.device_rules.specs.Device.{State, Outcome, state}
 use Rattle.device_rules.specs.Refusals.{stepped}
 use Rattle.text_answers.specs.Answers.{unlessRefused, newline, shownText, refusedLine}
@@ -16,13 +17,14 @@ abbrev pub setsIn : (line : List ℕ) → Sets
 setsIn line = record { level = numberIn line 1; reference = numberIn line 2; held = numberIn line 3; edge = numberIn line 4 }
 
 abbrev pub imageIn : (line : List ℕ) → State
-imageIn line = state (core (bytesAt line 0 128) (setsIn line)) (numberIn line 5) (numberIn line 6) (numberIn line 7)
+imageIn line =
+    state (core (bytesAt line 0 128) (setsIn line)) (interrupt (numberIn line 8) (numberIn line 9)) (numberIn line 5) (numberIn line 6) (numberIn line 7)
 
 abbrev pub kindIn : (line : List ℕ) → ℕ
-kindIn line = numberIn line 8
+kindIn line = numberIn line 10
 
 abbrev pub argumentIn : (line : List ℕ) → ℕ
-argumentIn line = numberIn line 9
+argumentIn line = numberIn line 11
 
 -- ---- the text of an image
 -- the same fields as a line's, less the event's; a tab before each
@@ -30,7 +32,8 @@ unfoldable pub imageText : State → List ℕ
 imageText s =
     0x09 ∷ bytesText (s .regs .file)
     ++ fieldsText (drop 1 widths)
-    (s .regs .sets .level ∷ s .regs .sets .reference ∷ s .regs .sets .held ∷ s .regs .sets .edge ∷ s .pointer ∷ s .bus ∷ s .choice ∷ [])
+    (s .regs .sets .level ∷ s .regs .sets .reference ∷ s .regs .sets .held ∷ s .regs .sets .edge
+    ∷ s .pointer ∷ s .bus ∷ s .choice ∷ s .interrupt .status ∷ s .interrupt .line ∷ [])
 
 -- ---- the answer
 -- as a trace tells the event; then the image after it, which no refusal has, and the newline

@@ -25,7 +25,7 @@ use pins::Sets;
 
 // The device whose image the line says.
 pub fn device_in(line: &[u8]) -> Device
-    requires { ⌜ length (now line) ≡ 359 ⌝ }
+    requires { ⌜ length (now line) ≡ 379 ⌝ }
     ensures { λ d. ⌜ stateIn d ≡ imageIn (now (line .entry)) ⌝ }
 {
     let sets = Sets {
@@ -40,12 +40,14 @@ pub fn device_in(line: &[u8]) -> Device
         pointer: probe_fields::byte_at(line, probe_fields::POINTER_AT),
         bus: probe_fields::byte_at(line, probe_fields::BUS_AT),
         choice: probe_fields::byte_at(line, probe_fields::CHOICE_AT),
+        status: probe_fields::word_at(line, probe_fields::STATUS_AT),
+        line: probe_fields::byte_at(line, probe_fields::LINE_AT),
     }
 }
 
 // The step that the line asks.
 pub fn step_in(line: &[u8]) -> Stepped
-    requires { ⌜ length (now line) ≡ 359 ⌝ }
+    requires { ⌜ length (now line) ≡ 379 ⌝ }
     ensures { λ s. ⌜ outcome (s .answer) (stateIn (s .device)) ≡ stepped part24 (imageIn (now (line .entry))) (kindIn (now (line .entry))) (argumentIn (now (line .entry))) ⌝ }
 {
     let device = device_in(line);
@@ -56,15 +58,16 @@ pub fn step_in(line: &[u8]) -> Stepped
 
 // The image's fields, a tab before each.
 fn put_image(out: &mut [u8], at: usize, d: Device) -> usize
-    requires { ⌜ at + 334 ≤ length (now out) ⌝ }
-    ensures { λ r. ⌜ Wrote (now (out .entry)) at (imageText (stateIn d)) r (now (out .exit)) × (r ≡ at + 334) ⌝ }
+    requires { ⌜ at + 354 ≤ length (now out) ⌝ }
+    ensures { λ r. ⌜ Wrote (now (out .entry)) at (imageText (stateIn d)) r (now (out .exit)) × (r ≡ at + 354) ⌝ }
 {
     let file = d.file;
     let sets = d.sets;
     let tab = text::put(out, at, b"\t");
     let bytes = probe_fields::put_bytes(out, tab, &file);
     let pins = probe_fields::put_sets(out, bytes, sets.level, sets.reference, sets.held, sets.edge);
-    probe_fields::put_bus(out, pins, d.pointer, d.bus, d.choice)
+    let bus = probe_fields::put_bus(out, pins, d.pointer, d.bus, d.choice);
+    probe_fields::put_interrupt(out, bus, d.status, d.line)
 }
 
 // The text with which a trace tells an answer. A refusal's shows nothing of the device, whose image may be a broken one.
@@ -76,8 +79,19 @@ fn put_answer(out: &mut [u8], at: usize, d: Device, answer: Answer) -> usize
     let pointer = d.pointer as u64;
     let bus = d.bus as u64;
     let choice = d.choice as u64;
+    let line = d.line as u64;
     let mut words = [0u64; 28];
-    let _fits = words_images::pack(&mut words, 0, &file, d.sets, pointer, bus, choice);
+    let _fits = words_images::pack(
+        &mut words,
+        0,
+        &file,
+        d.sets,
+        pointer,
+        bus,
+        choice,
+        d.status,
+        line,
+    );
     let int = words_views::int(&words);
     let low = words_views::low(&words, PINS24);
     let high = words_views::high(&words);
@@ -86,8 +100,8 @@ fn put_answer(out: &mut [u8], at: usize, d: Device, answer: Answer) -> usize
 
 // The answer, and behind it the image after the step; a refusal has no image.
 pub fn put_outcome(out: &mut [u8], at: usize, d: Device, answer: Answer) -> usize
-    requires { ⌜ (refusalNumber answer ≡ 0 → imageFits part24 (stateIn d) ≡ true) × (at + 360 ≤ length (now out)) ⌝ }
-    ensures { λ r. ⌜ Wrote (now (out .entry)) at (probeLine (outcome answer (stateIn d))) r (now (out .exit)) × (r ≤ at + 360) ⌝ }
+    requires { ⌜ (refusalNumber answer ≡ 0 → imageFits part24 (stateIn d) ≡ true) × (at + 380 ≤ length (now out)) ⌝ }
+    ensures { λ r. ⌜ Wrote (now (out .entry)) at (probeLine (outcome answer (stateIn d))) r (now (out .exit)) × (r ≤ at + 380) ⌝ }
 {
     let told = put_answer(out, at, d, answer);
     let Answer::Refused(_) = answer else {
@@ -99,8 +113,8 @@ pub fn put_outcome(out: &mut [u8], at: usize, d: Device, answer: Answer) -> usiz
 
 // One line, without its newline: its answer is written from at on.
 pub fn answer_line(line: &[u8], out: &mut [u8], at: usize) -> usize
-    requires { ⌜ at + 360 ≤ length (now out) ⌝ }
-    ensures { λ r. ⌜ Wrote (now (out .entry)) at (probeText (now (line .entry))) r (now (out .exit)) × (r ≤ at + 360) ⌝ }
+    requires { ⌜ at + 380 ≤ length (now out) ⌝ }
+    ensures { λ r. ⌜ Wrote (now (out .entry)) at (probeText (now (line .entry))) r (now (out .exit)) × (r ≤ at + 380) ⌝ }
 {
     if !probe_fields::is_readable(line) {
         return text_answers::put_line(out, at, Answer::Refused(UNREADABLE), false, 0, 0);
@@ -111,9 +125,9 @@ pub fn answer_line(line: &[u8], out: &mut [u8], at: usize) -> usize
     put_outcome(out, at, after, answer)
 }
 
-// A line that has begun, of which 360 bytes are kept: no longer line is readable.
+// A line that has begun, of which 380 bytes are kept: no longer line is readable.
 pub struct Line {
-    pub held: [u8; 360],
+    pub held: [u8; 380],
     pub len: usize,
 }
 
@@ -122,15 +136,15 @@ pub fn begin() -> Line
     ensures { λ l. ⌜ Holds l [] ⌝ }
 {
     Line {
-        held: [0; 360],
+        held: [0; 380],
         len: 0,
     }
 }
 
 // The line with these bytes more.
 pub fn grow(line: Line, part: &[u8]) -> Line
-    requires { ⌜ line .len ≤ 360 ⌝ }
-    ensures { λ l. ⌜ (l .len ≤ 360) × ((text : List ℕ) → Holds line text → Holds l (text ++ now (part .entry))) ⌝ }
+    requires { ⌜ line .len ≤ 380 ⌝ }
+    ensures { λ l. ⌜ (l .len ≤ 380) × ((text : List ℕ) → Holds line text → Holds l (text ++ now (part .entry))) ⌝ }
 {
     let mut held = line.held;
     let len = text_pieces::keep(&mut held, line.len, part);
@@ -139,8 +153,8 @@ pub fn grow(line: Line, part: &[u8]) -> Line
 
 // The whole line's answer, written from at on.
 pub fn answer(line: Line, out: &mut [u8], at: usize) -> usize
-    requires { ⌜ (line .len ≤ 360) × (at + 360 ≤ length (now out)) ⌝ }
-    ensures { λ r. ⌜ ((text : List ℕ) → Holds line text → Wrote (now (out .entry)) at (probeText text) r (now (out .exit))) × (r ≤ at + 360) ⌝ }
+    requires { ⌜ (line .len ≤ 380) × (at + 380 ≤ length (now out)) ⌝ }
+    ensures { λ r. ⌜ ((text : List ℕ) → Holds line text → Wrote (now (out .entry)) at (probeText text) r (now (out .exit))) × (r ≤ at + 380) ⌝ }
 {
     let held = line.held;
     let len = line.len;

@@ -1,3 +1,4 @@
-pub mod Writing
+pub mod Kept
 pub mod Pinwise
+pub mod Writing
 pub mod Written

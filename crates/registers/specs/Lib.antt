@@ -1,1 +1,2 @@
+pub mod Interrupt
 pub mod Registers

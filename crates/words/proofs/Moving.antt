@@ -1,6 +1,6 @@
 -- What a write does to the pins, in words: nothing, or its kind's rule at the pins of the register. Assumes nothing.
 use mathlib.Core.Path.{_≡_, refl, sym, ap, ap₂, _∙_}
-use mathlib.Core.Bool.{Bool, true, false, cond}
+use mathlib.Core.Bool.{Bool, true, false, cond, not}
 use mathlib.Core.List.{List}
 use Prim.Native.Nat.{ℕ, _-_, _<_}
 use Rattle.bits.specs.Bits.{bit}
@@ -15,6 +15,7 @@ use Rattle.ports.specs.Ports.{portBit}
 use Rattle.map.specs.Map.{Part, Kind, kindAt, firstOf}
 use Rattle.map.specs.Map.Kind.{Reserved, Input, Status, InputStatus, Configuration, Latch, Mask, PortKind, Edge, Clear, Output, Polarity, PinKind, Stored}
 use Rattle.registers.specs.Registers.{registersAt, ofPort, writtenTo}
+use Rattle.registers.specs.Interrupt.{rings}
 use Rattle.registers.proofs.Writing.{unmoved}
 use Rattle.words.specs.Words.{digitAt, fileOf, wordsAt}
 use Rattle.words.proofs.Sound.{Sound, grouped, place-is}
@@ -22,20 +23,7 @@ use Rattle.words.proofs.Reading.{registers-read}
 
 -- kinds whose registers move no pin's stored bits
 abbrev pub still : Kind → Bool
-still Configuration = false
-still Latch = false
-still Mask = false
-still Edge = false
-still Clear = false
-still Reserved = true
-still Input = true
-still Status = true
-still InputStatus = true
-still PortKind = true
-still Output = true
-still Polarity = true
-still PinKind = true
-still Stored = true
+still k = not (rings k)
 
 stays : (here : Bool) (e : Happening) (r : Registers) (x : Pin) → pinAfter e r x ≡ x → pinAfter (cond here e Elsewhere) r x ≡ x
 unfolding pinAfter

@@ -1,13 +1,13 @@
 -- What can be seen of the words: drives, INT; and what levels and a fetch do to the pins. Assumes nothing.
 use mathlib.Core.Path.{_≡_, refl, sym, ap, _∙_}
-use mathlib.Core.Bool.{Bool, _&&_}
+use mathlib.Core.Bool.{Bool, cond, _&&_}
 use mathlib.Core.List.{List}
 use Prim.Native.Nat.{ℕ, _/_, _-_, _^_, _<_}
 use native.Mathlib.Omega.{arith}
 use lib.ListN.{getD}
 use lib.Pow.{pow-pos}
 use Rattle.bits.specs.Bits.{bit}
-use Rattle.bits.proofs.Laws.{bit-ones, tabulated, some-ext}
+use Rattle.bits.proofs.Laws.{bit-ones, tabulated, tabulate-lt}
 use Rattle.pins.specs.Pin.{Source, only, inputFetched, drive, isLow, isHigh, levelTo}
 use Rattle.pins.specs.AllPins.{PinsOf, pinAt, mapPins, driveAt, asserted}
 use Rattle.pins.specs.OnePin.{Registers, OnePin, Happening, pinAfter, driveOf, statusOf}
@@ -17,7 +17,8 @@ use Rattle.pins.proofs.AllPins.{map-ext, map-within}
 use Rattle.ports.specs.Ports.{inPort}
 use Rattle.map.specs.Map.{Part, Kind, kindAt, firstOf, code}
 use Rattle.map.specs.Map.Kind.{Reserved, Input, Status, InputStatus, Configuration, Latch, Mask, PortKind, Edge, Clear, Output, Polarity, PinKind, Stored}
-use Rattle.registers.specs.Registers.{core, registersAt, fetchedAs, fetched, levelled, drivenLow, drivenHigh, intAsserted}
+use Rattle.registers.specs.Registers.{core, registersAt, fetchedAs, fetched, levelled, drivenLow, drivenHigh}
+use Rattle.registers.specs.Interrupt.{intLevel, workedOut}
 use Rattle.registers.proofs.Writing.{same, unmoved, written-here}
 use Rattle.words.specs.Words.{digitAt, fileOf, setsIn, withSets, coreIn, wordsAt, pinIn, Fit, Holds}
 use Rattle.words.proofs.Sound.{Sound, place-is}
@@ -47,12 +48,16 @@ module _ (p : Part) (ok : Sound p) (w : List ℕ) where
       (hk i (omega (arith, l, ok .narrow, ok .port-few)))
       ∙ ap (λ (s : OnePin). isHigh (driveOf s)) (sym (one-pin p ok w i l)))
 
-  pub int-read : (s : ℕ) → Fit p w → PinsOf s (λ i. statusOf (pinIn w i)) (getD w 4 0) → {r : Bool}
-      → ((w : ℕ) → s < 2 ^ w → r ≡ asserted w (λ i. bit s i)) → r ≡ intAsserted p (coreIn p w)
-  unfolding intAsserted asserted
-  int-read s fit h q =
-      q (p .width) (h .small (p .width) (word-small p ok w fit 4 (omega arith) refl))
-      ∙ some-ext (p .width) (λ i l. h .pins i ∙ ap statusOf (sym (one-pin p ok w i l)))
+  -- INT's level, of a status set of the part's pins
+  pub line-worked : (s r : ℕ) → s ≡ workedOut p (coreIn p w) .status → ((w : ℕ) → s < 2 ^ w → r ≡ cond (asserted w (λ i. bit s i)) 0 1) → r ≡ workedOut p (coreIn p w) .line
+  unfolding workedOut
+  line-worked s r e q = q (p .width) (rw e (tabulate-lt (p .width) _)) ∙ ap (intLevel p) e
+
+  -- the status set that the rules work out
+  pub status-worked : (s : ℕ) → Fit p w → PinsOf s (λ i. statusOf (pinIn w i)) (getD w 4 0) → s ≡ workedOut p (coreIn p w) .status
+  unfolding workedOut
+  status-worked s fit h =
+      tabulated (p .width) (h .small (p .width) (word-small p ok w fit 4 (omega arith) refl)) (λ i l. h .pins i ∙ ap statusOf (sym (one-pin p ok w i l)))
 
 -- ---- a fetch
 other-fetch : (p : Part) (k : Kind) → (code k ≡ 1 → ⊥) → (n i : ℕ) → fetchedAs p k n i ≡ Elsewhere

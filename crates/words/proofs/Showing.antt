@@ -21,7 +21,8 @@ use Rattle.ports.specs.Ports.{byteOf}
 use Rattle.map.specs.Map.{Part, Kind, kindAt, firstOf, stored, code}
 use Rattle.map.specs.Map.Kind.{Reserved, Input, Status, InputStatus, Configuration, Latch, Mask, PortKind, Edge, Clear, Output, Polarity, PinKind, Stored}
 use Rattle.registers.specs.Registers.{onePin, shownAs, shown}
-use Rattle.words.specs.Words.{slotAt, digitAt, heldBit, entryOf, paired, setsIn, coreIn, pinIn, zipped, Fit}
+use Rattle.registers.specs.Interrupt.{shownKept}
+use Rattle.words.specs.Words.{slotAt, digitAt, heldBit, entryOf, paired, setsIn, interruptIn, coreIn, pinIn, zipped, Fit}
 use Rattle.words.proofs.Sound.{Sound, grouped, place-is, place-ported}
 use Rattle.words.proofs.Reading.{file-entry, group-read, kind-read, registers-read}
 use Rattle.words.proofs.Holding.{pin-word}
@@ -135,3 +136,13 @@ module _ (p : Part) (ok : Sound p) (n : ℕ) (hn : n < 128) (w : List ℕ) where
       let l : digitAt p n < p .ports = place-ported p ok n hn k e g z in
       q ∙ tabulate-ext 8 (λ j m. h (8 * d + j) (omega (arith, ed, l)))
       ∙ ap (λ (d : ℕ). byteOf d f) (ed ∙ place-is p ok n hn k e g) ∙ r ∙ ap (λ (k : Kind). shownAs p k (coreIn p w) n) (sym e)
+
+  -- what is kept of the interrupt is shown as interrupt status, and there alone
+  pub shown-else : eqb (code (kindAt p n)) (code Status) ≡ false → {b : ℕ} → b ≡ shown p (coreIn p w) n → b ≡ shownKept p (kindAt p n) (coreIn p w) (interruptIn w) n
+  unfolding shownKept
+  shown-else z q = simp z q
+
+  pub shown-status : kindAt p n ≡ Status → (d : ℕ) → d ≡ digitAt p n → {b : ℕ} → b ≡ byteOf d (bit (getD w 19 0))
+      → b ≡ shownKept p (kindAt p n) (coreIn p w) (interruptIn w) n
+  unfolding shownKept
+  shown-status e d ed q = simp e (q ∙ ap (λ (d : ℕ). byteOf d (bit (getD w 19 0))) (ed ∙ place-is p ok n hn Status e refl))

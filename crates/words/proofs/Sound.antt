@@ -11,6 +11,7 @@ use mathlib.Core.List.{List, [], _∷_}
 use Rattle.map.specs.Map.{Part, Group, Kind, part24, part34, kindAt, firstOf, stored, code, roomAt, whole}
 use Rattle.map.specs.Map.Kind.{Reserved, Input, Status, InputStatus, Configuration, Latch, Mask, PortKind, Edge, Clear, Output, Polarity, PinKind, Stored}
 use Rattle.map.proofs.ByNumber.{named, kind-is}
+use Rattle.registers.proofs.Pinwise.{Mapped, mapped24, mapped34}
 use Rattle.words.specs.Words.{partOf, slots, slotAt, digitAt, wideOf, paired}
 
 -- where the group of a word begins
@@ -163,6 +164,10 @@ sound34 = record {
 pub sound : (c : ℕ) → Sound (partOf c)
 sound zero = sound24
 sound (suc c) = sound34
+
+pub mapped : (c : ℕ) → Mapped (partOf c)
+mapped zero = mapped24
+mapped (suc c) = mapped34
 
 pub pick : (b x : Bool) → b ≡ true → cond b x true ≡ true → x ≡ true
 pick true x e q = q

@@ -14,13 +14,14 @@ use Rattle.pins.specs.declared.Sets.{Sets}
 use Rattle.ports.specs.Ports.{byteOf}
 use Rattle.map.specs.Map.{Part, Group, part24, part34, groupIn, kindAt, stored, keptIn, entries}
 use Rattle.registers.specs.Registers.{Core, core, keptAs}
+use Rattle.registers.specs.Interrupt.{Interrupt, interrupt}
 
 -- the part of that number
 abbrev pub partOf : ℕ → Part
 partOf zero = part24
 partOf (suc n) = part34
 
--- ---- the words by their numbers. The pins: level 0, reference 1, held 2, edge 3. Then the stored groups. From 19 on what is neither: 28 in all.
+-- ---- the words by their numbers. The pins: level 0, reference 1, held 2, edge 3. Then the stored groups. From 19 on what is neither, status set and line first: 28 in all.
 abbrev pub configurationWord : ℕ
 configurationWord = 4
 
@@ -64,6 +65,13 @@ debounceEnableWord = 17
 
 abbrev pub debounceCountWord : ℕ
 debounceCountWord = 18
+
+-- what is kept of the interrupt: the status set, and INT's level
+abbrev pub statusWord : ℕ
+statusWord = 19
+
+abbrev pub lineWord : ℕ
+lineWord = 20
 
 -- the word of each group, in the order of a part's groups, which is the same for both parts; 0 where nothing is stored
 abbrev pub slots : List ℕ
@@ -116,6 +124,14 @@ withSets w x = set (set (set (set w 0 (x .level)) 1 (x .reference)) 2 (x .held))
 abbrev pub coreIn : Part → List ℕ → Core
 coreIn p w = core (fileOf p w) (setsIn w)
 
+-- ---- what is kept of the interrupt
+abbrev pub interruptIn : List ℕ → Interrupt
+interruptIn w = interrupt (getD w statusWord 0) (getD w lineWord 0)
+
+abbrev pub withInterrupt : List ℕ → Interrupt → List ℕ
+withInterrupt w kept = set (set w statusWord (kept .status)) lineWord (kept .line)
+
+-- ---- one pin
 -- what the words say of pin i: the same for both parts
 abbrev pub wordsAt : List ℕ → ℕ → Registers
 wordsAt w i =

@@ -40,6 +40,10 @@ pub const DEBOUNCE_ENABLE: usize = 17;
 
 pub const DEBOUNCE_COUNT: usize = 18;
 
+pub const STATUS: usize = 19;
+
+pub const LINE: usize = 20;
+
 pub const POINTER: usize = 21;
 
 pub const BUS: usize = 22;

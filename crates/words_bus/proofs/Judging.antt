@@ -19,6 +19,7 @@ use Rattle.device_rules.specs.Device.Event.{Start, Stop, HardwareReset, ByteSen
 use Rattle.device_rules.specs.declared.Answer.{Answer}
 use Rattle.device_rules.specs.declared.Answer.the-variants.{Nothing, Ack, Nak, Byte, Refused}
 use Rattle.device_rules.specs.Refusals.{eventOf, setsFit, imageFits, argumentFits, refusal, stepped}
+use Rattle.device_rules.proofs.Images.{fits-of}
 use Rattle.words.specs.Words.{partOf, setsIn}
 use Rattle.words.proofs.Sound.{sound}
 use Rattle.words.proofs.Holding.{within}
@@ -42,6 +43,7 @@ module _ (c : ℕ) (w : List ℕ) (k : Packed c w) where
         lt-ltb (getD w 2 0) (2 ^ partOf c .width) (d .held-small),
         lt-ltb (getD w 3 0) (2 ^ partOf c .width) (d .edge-small),
         file-of-fits (partOf c) (sound c) w (k .fit),
+        fits-of (partOf c) (stateIn (partOf c) w) (k .right),
       )
 
   module _ (kind arg : ℕ) where
@@ -100,7 +102,7 @@ module _ (p : Part) (s : State) where
       (either (eqb v (addressByte s + 1)) (out Ack (goes s Sending)) (cond (eqb v 0x00) (out Ack (goes s Call)) (out Nak (goes s Deaf))) (record { is = refl })
       (either (eqb v 0x00) (out Ack (goes s Call)) (out Nak (goes s Deaf)) (record { is = refl }) (record { is = refl })))
   plain-byte Chosen v =
-      either (reserved p v) (out Nak (goes s Deaf)) (out Ack (state (s .regs) v (number Filling) (s .choice))) (record { is = refl }) (record { is = refl })
+      either (reserved p v) (out Nak (goes s Deaf)) (out Ack (state (s .regs) (s .interrupt) v (number Filling) (s .choice))) (record { is = refl }) (record { is = refl })
   plain-byte Call v = either (eqb v 0x06) (out Ack (goes s Armed)) (out Nak (goes s Deaf)) (record { is = refl }) (record { is = refl })
   plain-byte Filling v = record { is = refl }
   plain-byte Armed v = record { is = refl }
@@ -174,7 +176,7 @@ same-packed c w w' k k' e = ext-getD 0 w w' (k .fit .full ∙ sym (k' .fit .full
     word s h false q false r =
         let past : 19 ≤ s = ltb-false s 19 r in
         let z : s - 19 + 19 ≡ s = omega arith in
-        rw z at (last-words (λ s. getD w s 0 ≡ getD w' s 0) (none 19 refl) (none 20 refl) (ap (λ (s : State). s .pointer) e) (ap (λ (s : State). s .bus) e)
+        rw z at (last-words (λ s. getD w s 0 ≡ getD w' s 0) (ap (λ (s : State). s .interrupt .status) e) (ap (λ (s : State). s .interrupt .line) e) (ap (λ (s : State). s .pointer) e) (ap (λ (s : State). s .bus) e)
         (ap (λ (s : State). s .choice) e) (none 24 refl) (none 25 refl) (none 26 refl) (k .part-is ∙ sym (k' .part-is)) (s - 19) (omega arith))
 
 -- ---- a step, judged
@@ -195,6 +197,7 @@ module _ (c : ℕ) (w : List ℕ) (kind arg : ℕ) where
 pub bounded-of : (c : ℕ) (w : List ℕ) → Packed c w → Bounded c w
 bounded-of c w k = record {
   fit = k .fit;
+  right = k .right;
   none = k .none;
   pointer-small = known-small (rowAt (partOf c) (getD w 21 0)) c (getD w 21 0) (k .pointer-known) refl;
   bus-small = k .bus-small;
@@ -210,6 +213,7 @@ module _ (c : ℕ) (hc : c < 2) (w : List ℕ) (b : Bounded c w) (row : ℕ) (e 
   packed-of z = record {
     known-part = hc;
     fit = b .fit;
+    right = b .right;
     none = b .none;
     pointer-known = sym (row-zero row c (getD w 21 0) (b .pointer-small) row-there) ∙ ne-eqb row 0 z;
     bus-small = b .bus-small;

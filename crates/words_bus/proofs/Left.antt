@@ -16,39 +16,37 @@ use Rattle.pins.proofs.AllPins.{same}
 use Rattle.map.specs.Map.{Part, kindAt, code, reserved}
 use Rattle.map.specs.Map.Kind.{Reserved}
 use Rattle.registers.specs.Registers.{Core}
+use Rattle.registers.specs.Interrupt.{Interrupt, workedOut}
+use Rattle.registers.proofs.Kept.{same-interrupt}
 use Rattle.registers.proofs.Writing.{same as same-core}
 use Rattle.device_rules.specs.Device.{State, Outcome, busAt, state, out, byteIn, step}
 use Rattle.device_rules.specs.Device.Event.{ByteSent}
 use Rattle.device_rules.specs.declared.Answer.{Answer}
 use Rattle.device_rules.specs.declared.Answer.the-variants.{Nothing, Ack, Nak, Byte, Refused}
 use Rattle.device_rules.proofs.Stepping.{same-state, at-bus}
-use Rattle.words.specs.Words.{partOf, coreIn, Fit, Holds}
+use Rattle.words.specs.Words.{partOf, coreIn, interruptIn, withInterrupt, Fit, Holds}
 use Rattle.words.proofs.Sound.{sound}
 use Rattle.words.proofs.Writing.{file-beside}
 use Rattle.words_rows.specs.Rows.{rowAt}
 use Rattle.words_rows.proofs.Taken.{row-zero}
-use Rattle.words_bus.specs.Packed.{stateIn, answerAt, unused, Packed, Leaves}
+use Rattle.words_bus.specs.Packed.{stateIn, answerAt, unused, Packed, Becomes, Leaves}
 
 -- the unused words
-pub unused-case : (P : ℕ → Type 0) → P 19 → P 20 → P 24 → P 25 → P 26 → (s : ℕ) → unused s ≡ true → P s
-unused-case P a b c d e s u = go (eqb s 19) refl (eqb s 20) refl (eqb s 24) refl (eqb s 25) refl u
+pub unused-case : (P : ℕ → Type 0) → P 24 → P 25 → P 26 → (s : ℕ) → unused s ≡ true → P s
+unused-case P c d e s u = go (eqb s 24) refl (eqb s 25) refl
   where
-    go : (p : Bool) → eqb s 19 ≡ p → (q : Bool) → eqb s 20 ≡ q → (r : Bool) → eqb s 24 ≡ r → (t : Bool) → eqb s 25 ≡ t → (p || (q || (ltb 23 s && ltb s 27))) ≡ true → P s
-    go true p q r t x y z u = rw (eqb-true s 19 p) a
-    go false p true r t x y z u = rw (eqb-true s 20 r) b
-    go false p false r true x y z u = rw (eqb-true s 24 x) c
-    go false p false r false x true z u = rw (eqb-true s 25 z) d
-    go false p false r false x false z u =
+    go : (p : Bool) → eqb s 24 ≡ p → (q : Bool) → eqb s 25 ≡ q → P s
+    go true p q r = rw (eqb-true s 24 p) c
+    go false p true r = rw (eqb-true s 25 r) d
+    go false p false r =
         let h : 23 < s = ltb-true 23 s (and-left (ltb 23 s) (ltb s 27) u) in
         let l : s < 27 = ltb-true s 27 (and-right (ltb 23 s) (ltb s 27) u) in
-        let q : s ≡ 26 = omega (arith, eqb-false s 24 x, eqb-false s 25 z) in
+        let q : s ≡ 26 = omega (arith, eqb-false s 24 p, eqb-false s 25 r) in
         rw q e
 
--- an unused word is past those of registers and pins, and neither the pointer nor the bus state
-unused-past : (s : ℕ) → unused s ≡ true → (18 < s) × (s ≡ 21 → ⊥) × (s ≡ 22 → ⊥)
-unused-past = unused-case (λ s. (18 < s) × (s ≡ 21 → ⊥) × (s ≡ 22 → ⊥))
-    (omega arith, λ z. omega (arith, z), λ z. omega (arith, z)) (omega arith, λ z. omega (arith, z), λ z. omega (arith, z)) (omega arith, λ z. omega (arith, z), λ z. omega (arith, z))
-    (omega arith, λ z. omega (arith, z), λ z. omega (arith, z)) (omega arith, λ z. omega (arith, z), λ z. omega (arith, z))
+-- an unused word is past those that events change
+unused-past : (s : ℕ) → unused s ≡ true → 23 < s
+unused-past s u = ltb-true 23 s (and-left (ltb 23 s) (ltb s 27) u)
 
 -- ---- a word past those of registers and pins
 module _ (c : ℕ) (w : List ℕ) (s x : ℕ) (past : 18 < s) where
@@ -66,13 +64,22 @@ module _ (c : ℕ) (w : List ℕ) (s x : ℕ) (past : 18 < s) where
     clear = λ t i h e. ap (λ (y : ℕ). bit y i) (past-other t h) ∙ fit .clear t i h e;
   }
 
+module _ (c : ℕ) (w : List ℕ) (s x : ℕ) (past : 20 < s) where
+  -- what is kept of the interrupt stays, and stays right
+  interrupt-past : interruptIn (set w s x) ≡ interruptIn w
+  interrupt-past = same-interrupt (getD-set-other w s 19 x 0 (λ e. omega (arith, e))) (getD-set-other w s 20 x 0 (λ e. omega (arith, e)))
+
+  right-past : interruptIn w ≡ workedOut (partOf c) (coreIn (partOf c) w) → interruptIn (set w s x) ≡ workedOut (partOf c) (coreIn (partOf c) (set w s x))
+  right-past right = interrupt-past ∙ right ∙ ap (workedOut (partOf c)) (sym (core-past c w s x (omega arith)))
+
 module _ (c : ℕ) (w : List ℕ) (k : Packed c w) where
   -- registers and pins change
-  pub packed-holds : {u : List ℕ} {after : Core} → Holds (partOf c) w u after → Packed c u
-  packed-holds h = record {
+  pub packed-becomes : {u : List ℕ} {after : Core} → Becomes c w u after → Packed c u
+  packed-becomes h = record {
     known-part = k .known-part;
     fit = h .fit;
-    none = λ s e. h .rest s (unused-past s e .0) ∙ k .none s e;
+    right = h .right ∙ ap (workedOut (partOf c)) (sym (h .core));
+    none = λ s e. h .rest s (let p = unused-past s e in omega arith) ∙ k .none s e;
     pointer-known = ap (reserved (partOf c)) (h .rest 21 (omega arith)) ∙ k .pointer-known;
     bus-small = rw (h .rest 22 (omega arith)) (k .bus-small);
     choice-small = rw (h .rest 23 (omega arith)) (k .choice-small);
@@ -84,7 +91,8 @@ module _ (c : ℕ) (w : List ℕ) (k : Packed c w) where
   packed-pointer x e = record {
     known-part = k .known-part;
     fit = fit-past c w 21 x (omega arith) (k .fit);
-    none = λ s u. getD-set-other w 21 s x 0 (unused-past s u .1) ∙ k .none s u;
+    right = right-past c w 21 x (omega arith) (k .right);
+    none = λ s u. getD-set-other w 21 s x 0 (let p = unused-past s u in λ z. omega (arith, z)) ∙ k .none s u;
     pointer-known = ap (reserved (partOf c)) (getD-set-same w 21 x 0 (omega (arith, k .fit .full))) ∙ e;
     bus-small = rw (getD-set-other w 21 22 x 0 (λ z. omega (arith, z))) (k .bus-small);
     choice-small = rw (getD-set-other w 21 23 x 0 (λ z. omega (arith, z))) (k .choice-small);
@@ -96,63 +104,93 @@ module _ (c : ℕ) (w : List ℕ) (k : Packed c w) where
   packed-bus b h = record {
     known-part = k .known-part;
     fit = fit-past c w 22 b (omega arith) (k .fit);
-    none = λ s u. getD-set-other w 22 s b 0 (unused-past s u .2) ∙ k .none s u;
+    right = right-past c w 22 b (omega arith) (k .right);
+    none = λ s u. getD-set-other w 22 s b 0 (let p = unused-past s u in λ z. omega (arith, z)) ∙ k .none s u;
     pointer-known = ap (reserved (partOf c)) (getD-set-other w 22 21 b 0 (λ z. omega (arith, z))) ∙ k .pointer-known;
     bus-small = rw (getD-set-same w 22 b 0 (omega (arith, k .fit .full))) h;
     choice-small = rw (getD-set-other w 22 23 b 0 (λ z. omega (arith, z))) (k .choice-small);
     part-is = getD-set-other w 22 27 b 0 (λ z. omega (arith, z)) ∙ k .part-is;
   }
 
-  pub state-pointer : (x : ℕ) → stateIn (partOf c) (set w 21 x) ≡ state (coreIn (partOf c) w) x (getD w 22 0) (getD w 23 0)
+  pub state-pointer : (x : ℕ) → stateIn (partOf c) (set w 21 x) ≡ state (coreIn (partOf c) w) (interruptIn w) x (getD w 22 0) (getD w 23 0)
   state-pointer x =
-      same-state (core-past c w 21 x (omega arith)) (getD-set-same w 21 x 0 (omega (arith, k .fit .full)))
+      same-state (core-past c w 21 x (omega arith)) (interrupt-past c w 21 x (omega arith)) (getD-set-same w 21 x 0 (omega (arith, k .fit .full)))
       (getD-set-other w 21 22 x 0 (λ z. omega (arith, z))) (getD-set-other w 21 23 x 0 (λ z. omega (arith, z)))
 
-  pub state-bus : (b : ℕ) → stateIn (partOf c) (set w 22 b) ≡ state (coreIn (partOf c) w) (getD w 21 0) b (getD w 23 0)
+  pub state-bus : (b : ℕ) → stateIn (partOf c) (set w 22 b) ≡ state (coreIn (partOf c) w) (interruptIn w) (getD w 21 0) b (getD w 23 0)
   state-bus b =
-      same-state (core-past c w 22 b (omega arith)) (getD-set-other w 22 21 b 0 (λ z. omega (arith, z)))
+      same-state (core-past c w 22 b (omega arith)) (interrupt-past c w 22 b (omega arith)) (getD-set-other w 22 21 b 0 (λ z. omega (arith, z)))
       (getD-set-same w 22 b 0 (omega (arith, k .fit .full))) (getD-set-other w 22 23 b 0 (λ z. omega (arith, z)))
+
+-- ---- registers and pins changed, and the interrupt with them
+module _ (c : ℕ) (w u : List ℕ) {after : Core} (h : Holds (partOf c) w u after) where
+  -- worked out anew
+  pub rung : {v : List ℕ} → v ≡ withInterrupt u (workedOut (partOf c) (coreIn (partOf c) u)) → Becomes c w v after
+  rung e = rw e (record {
+    core = core-past c u' 20 (kept .line) (omega arith) ∙ core-past c u 19 (kept .status) (omega arith) ∙ h .core;
+    fit = fit-past c u' 20 (kept .line) (omega arith) (fit-past c u 19 (kept .status) (omega arith) (h .fit));
+    right = same-interrupt
+        (getD-set-other u' 20 19 (kept .line) 0 (λ z. omega (arith, z)) ∙ getD-set-same u 19 (kept .status) 0 (omega (arith, h .fit .full)))
+        (getD-set-same u' 20 (kept .line) 0 (simp length-set (omega (arith, h .fit .full))))
+        ∙ ap (workedOut (partOf c)) (h .core);
+    rest = λ s l. getD-set-other u' 20 s (kept .line) 0 (λ z. omega (arith, z)) ∙ getD-set-other u 19 s (kept .status) 0 (λ z. omega (arith, z)) ∙ h .rest s (omega arith);
+  })
+    where
+      kept : Interrupt
+      kept = workedOut (partOf c) (coreIn (partOf c) u)
+
+      u' : List ℕ
+      u' = set u 19 (kept .status)
+
+  -- untouched, where no status bit changed
+  pub unrung : interruptIn w ≡ workedOut (partOf c) after → Becomes c w u after
+  unrung e = record {
+    core = h .core;
+    fit = h .fit;
+    right = same-interrupt (h .rest 19 (omega arith)) (h .rest 20 (omega arith)) ∙ e;
+    rest = λ s l. h .rest s (omega arith);
+  }
 
 -- ---- what is left
 module _ (c : ℕ) (w : List ℕ) (k : Packed c w) (a : Answer) where
   pub left-same : {o : Outcome} → out a (stateIn (partOf c) w) ≡ o → Leaves c w a o
   left-same q = record { outcome = q; packed = k }
 
-  pub left-bus : (b : ℕ) → b < 8 → {o : Outcome} → out a (state (coreIn (partOf c) w) (getD w 21 0) b (getD w 23 0)) ≡ o → Leaves c (set w 22 b) a o
+  pub left-bus : (b : ℕ) → b < 8 → {o : Outcome} → out a (state (coreIn (partOf c) w) (interruptIn w) (getD w 21 0) b (getD w 23 0)) ≡ o → Leaves c (set w 22 b) a o
   left-bus b h q = record { outcome = ap (out a) (state-bus c w k b) ∙ q; packed = packed-bus c w k b h }
 
-  pub left-pointer : (x : ℕ) → reserved (partOf c) x ≡ false → {o : Outcome} → out a (state (coreIn (partOf c) w) x (getD w 22 0) (getD w 23 0)) ≡ o → Leaves c (set w 21 x) a o
+  pub left-pointer : (x : ℕ) → reserved (partOf c) x ≡ false → {o : Outcome} → out a (state (coreIn (partOf c) w) (interruptIn w) x (getD w 22 0) (getD w 23 0)) ≡ o → Leaves c (set w 21 x) a o
   left-pointer x h q = record { outcome = ap (out a) (state-pointer c w k x) ∙ q; packed = packed-pointer c w k x h }
 
   -- the answer and the words as a function has them
   pub went : (b : ℕ) → b < 8 → {a' : Answer} {w' : List ℕ} {o : Outcome} → a' ≡ a → w' ≡ set w 22 b
-      → out a (state (coreIn (partOf c) w) (getD w 21 0) b (getD w 23 0)) ≡ o → Leaves c w' a' o
+      → out a (state (coreIn (partOf c) w) (interruptIn w) (getD w 21 0) b (getD w 23 0)) ≡ o → Leaves c w' a' o
   went b h ea ew q = rw (ea, ew) (left-bus b h q)
 
 -- the same after a change of registers and pins
-module _ (c : ℕ) (w u : List ℕ) (k : Packed c w) (after : Core) (h : Holds (partOf c) w u after) (a : Answer) where
+module _ (c : ℕ) (w u : List ℕ) (k : Packed c w) (after : Core) (h : Becomes c w u after) (a : Answer) where
   -- what the rest of the state is then
-  beside : (s : ℕ) → 18 < s → getD u s 0 ≡ getD w s 0
+  beside : (s : ℕ) → 20 < s → getD u s 0 ≡ getD w s 0
   beside = h .rest
 
-  pub holds-left : {o : Outcome} → out a (state after (getD w 21 0) (getD w 22 0) (getD w 23 0)) ≡ o → Leaves c u a o
+  pub holds-left : {o : Outcome} → out a (state after (workedOut (partOf c) after) (getD w 21 0) (getD w 22 0) (getD w 23 0)) ≡ o → Leaves c u a o
   holds-left q =
-      left-same c u (packed-holds c w k h) a
-      (ap (out a) (same-state (h .core) (beside 21 (omega arith)) (beside 22 (omega arith)) (beside 23 (omega arith))) ∙ q)
+      left-same c u (packed-becomes c w k h) a
+      (ap (out a) (same-state (h .core) (h .right) (beside 21 (omega arith)) (beside 22 (omega arith)) (beside 23 (omega arith))) ∙ q)
 
-  pub holds-bus : (b : ℕ) → b < 8 → {o : Outcome} → out a (state after (getD w 21 0) b (getD w 23 0)) ≡ o → Leaves c (set u 22 b) a o
+  pub holds-bus : (b : ℕ) → b < 8 → {o : Outcome} → out a (state after (workedOut (partOf c) after) (getD w 21 0) b (getD w 23 0)) ≡ o → Leaves c (set u 22 b) a o
   holds-bus b l q =
-      left-bus c u (packed-holds c w k h) a b l (ap (out a) (same-state (h .core) (beside 21 (omega arith)) refl (beside 23 (omega arith))) ∙ q)
+      left-bus c u (packed-becomes c w k h) a b l (ap (out a) (same-state (h .core) (h .right) (beside 21 (omega arith)) refl (beside 23 (omega arith))) ∙ q)
 
-  pub holds-pointer : (x : ℕ) → reserved (partOf c) x ≡ false → {o : Outcome} → out a (state after x (getD w 22 0) (getD w 23 0)) ≡ o → Leaves c (set u 21 x) a o
+  pub holds-pointer : (x : ℕ) → reserved (partOf c) x ≡ false → {o : Outcome} → out a (state after (workedOut (partOf c) after) x (getD w 22 0) (getD w 23 0)) ≡ o → Leaves c (set u 21 x) a o
   holds-pointer x l q =
-      left-pointer c u (packed-holds c w k h) a x l (ap (out a) (same-state (h .core) refl (beside 22 (omega arith)) (beside 23 (omega arith))) ∙ q)
+      left-pointer c u (packed-becomes c w k h) a x l (ap (out a) (same-state (h .core) (h .right) refl (beside 22 (omega arith)) (beside 23 (omega arith))) ∙ q)
 
 pub chose : (c : ℕ) (w : List ℕ) → Packed c w → (a : Answer) (x b : ℕ) → reserved (partOf c) x ≡ false → b < 8 → {a' : Answer} {w' : List ℕ} {o : Outcome}
-    → a' ≡ a → w' ≡ set (set w 21 x) 22 b → out a (state (coreIn (partOf c) w) x b (getD w 23 0)) ≡ o → Leaves c w' a' o
+    → a' ≡ a → w' ≡ set (set w 21 x) 22 b → out a (state (coreIn (partOf c) w) (interruptIn w) x b (getD w 23 0)) ≡ o → Leaves c w' a' o
 chose c w k a x b e h ea ew q =
     went c (set w 21 x) (packed-pointer c w k x e) a b h ea ew
-    (ap (λ (s : State). out a (state (s .regs) (s .pointer) b (s .choice))) (state-pointer c w k x) ∙ q)
+    (ap (λ (s : State). out a (state (s .regs) (s .interrupt) (s .pointer) b (s .choice))) (state-pointer c w k x) ∙ q)
 
 -- ---- a command
 pub over : (p : Part) (v : ℕ) → 127 < v → reserved p v ≡ true

@@ -1,8 +1,8 @@
 -- A reset leaves the words of the part's defaults, computed for each part, and the pins settled. Assumes nothing.
-use mathlib.Core.Path.{_≡_, refl, ap₂}
+use mathlib.Core.Path.{_≡_, refl, sym, ap, _∙_}
 use mathlib.Core.Bool.{false}
-use mathlib.Core.List.{List}
-use Prim.Native.Nat.{ℕ, zero, suc, _-_, _^_}
+use mathlib.Core.List.{List, []}
+use Prim.Native.Nat.{ℕ, zero, suc, _-_, _^_, _<_}
 use native.Mathlib.Omega.{arith}
 use lib.ListN.{getD}
 use Rattle.bits.specs.Bits.{bit, tabulate}
@@ -13,14 +13,19 @@ use Rattle.pins.specs.declared.Sets.{Sets}
 use Rattle.pins.proofs.AllPins.{map-within}
 use Rattle.map.specs.Map.{part24, part34, kindAt, reserved, defaults}
 use Rattle.registers.specs.Registers.{core}
-use Rattle.device_rules.specs.Device.{state, out, resetted}
+use Rattle.registers.specs.Interrupt.{workedOut, quiet}
+use Rattle.registers.proofs.Writing.{same as same-core}
+use Rattle.registers.proofs.Kept.{same-interrupt, kept-reset}
+use Rattle.device_rules.specs.Device.{number, state, out, resetted}
+use Rattle.device_rules.specs.Device.Bus.{Idle}
 use Rattle.device_rules.specs.declared.Answer.the-variants.{Nothing}
-use Rattle.words.specs.Words.{partOf, slotAt, digitAt, heldBit, entryOf, fileOf, wideOf, setsIn, withSets, Fit}
-use Rattle.words.proofs.Sound.{sound}
+use Rattle.device_rules.proofs.Stepping.{same-state}
+use Rattle.words.specs.Words.{partOf, slotAt, digitAt, heldBit, entryOf, fileOf, wideOf, setsIn, withSets, coreIn, interruptIn, Fit, Holds}
+use Rattle.words.proofs.Sound.{sound, mapped}
 use Rattle.words.proofs.Fits.{fit-of-small}
 use Rattle.words.proofs.Holding.{holds-sets}
 use Rattle.words_bus.specs.Packed.{stateIn, resetWords, Packed, Leaves}
-use Rattle.words_bus.proofs.Left.{unused-case, holds-left}
+use Rattle.words_bus.proofs.Left.{unused-case, by-rule}
 
 pub record Defaults (c choice part : ℕ) : Type 0 where
   pub file : fileOf (partOf c) (resetWords (2 ^ partOf c .width - 1) choice part) ≡ defaults (partOf c)
@@ -32,28 +37,42 @@ unfolding fileOf entryOf heldBit slotAt digitAt wideOf defaults kindAt reserved 
 by-part zero choice part = record { file = refl; fit = fit-of-small part24 _ refl (eachBool 19 _ _ tt); known = refl }
 by-part (suc c) choice part = record { file = refl; fit = fit-of-small part34 _ refl (eachBool 19 _ _ tt); known = refl }
 
+-- the defaults' words with settled pins, whatever those were
+pub fresh : (c choice : ℕ) → c < 2 → choice < 4 → (pins : ℕ) → pins ≡ 2 ^ partOf c .width - 1 → (x y : Sets) → y ≡ mapPins (partOf c .width) x (λ i. reset)
+    → Leaves c (withSets (resetWords pins choice c) y) Nothing (out Nothing (state (core (defaults (partOf c)) y) quiet 0 (number Idle) choice))
+fresh c choice hc hchoice pins e x y q =
+    rw e (record { outcome = ap (out Nothing) (same-state regs kept (h .rest 21 (omega arith)) (h .rest 22 (omega arith)) (h .rest 23 (omega arith))); packed = packed })
+  where
+    d : Defaults c choice c
+    d = by-part c choice c
+
+    u : List ℕ
+    u = resetWords (2 ^ partOf c .width - 1) choice c
+
+    h : Holds (partOf c) u (withSets u y) (core (fileOf (partOf c) u) y)
+    h = holds-sets (partOf c) (sound c) u u y (d .fit) (rw q (map-within (partOf c .width) x _)) refl (λ s l. refl)
+
+    regs : coreIn (partOf c) (withSets u y) ≡ core (defaults (partOf c)) y
+    regs = h .core ∙ same-core (d .file) refl
+
+    kept : interruptIn (withSets u y) ≡ quiet
+    kept = same-interrupt (h .rest 19 (omega arith)) (h .rest 20 (omega arith))
+
+    packed : Packed c (withSets u y)
+    packed = record {
+      known-part = hc;
+      fit = h .fit;
+      right = kept ∙ kept-reset (partOf c) (core [] x) (mapped c) ∙ ap (workedOut (partOf c)) (sym (regs ∙ same-core refl q));
+      none = unused-case (λ s. getD (withSets u y) s 0 ≡ 0) (h .rest 24 (omega arith)) (h .rest 25 (omega arith)) (h .rest 26 (omega arith));
+      pointer-known = ap (reserved (partOf c)) (h .rest 21 (omega arith)) ∙ d .known;
+      bus-small = omega (arith, h .rest 22 (omega arith));
+      choice-small = rw (h .rest 23 (omega arith)) hchoice;
+      part-is = h .rest 27 (omega arith);
+    }
+
 pub reset-left : (c : ℕ) (w : List ℕ) → Packed c w → (pins : ℕ) → pins ≡ 2 ^ partOf c .width - 1 → (y : Sets) → y ≡ mapPins (partOf c .width) (setsIn w) (λ i. reset)
     → Leaves c (withSets (resetWords pins (getD w 23 0) (getD w 27 0)) y) Nothing (out Nothing (resetted (partOf c) (stateIn (partOf c) w)))
 unfolding resetted
 reset-left c w k pins e y q =
-    rw e
-    (holds-left c u (withSets u y) packed (core (fileOf (partOf c) u) y)
-    (holds-sets (partOf c) (sound c) u u y (d .fit) (rw q (map-within (partOf c .width) (setsIn w) _)) refl (λ s h. refl)) Nothing
-    (ap₂ (λ (f : List ℕ) (y : Sets). out Nothing (state (core f y) 0 0 (getD w 23 0))) (d .file) q))
-  where
-    d : Defaults c (getD w 23 0) (getD w 27 0)
-    d = by-part c (getD w 23 0) (getD w 27 0)
-
-    u : List ℕ
-    u = resetWords (2 ^ partOf c .width - 1) (getD w 23 0) (getD w 27 0)
-
-    packed : Packed c u
-    packed = record {
-      known-part = k .known-part;
-      fit = d .fit;
-      none = unused-case (λ s. getD u s 0 ≡ 0) refl refl refl refl refl;
-      pointer-known = d .known;
-      bus-small = omega arith;
-      choice-small = k .choice-small;
-      part-is = k .part-is;
-    }
+    rw (k .part-is) (by-rule (fresh c (getD w 23 0) (k .known-part) (k .choice-small) pins e (setsIn w) y q)
+    (ap (λ (y : Sets). out Nothing (state (core (defaults (partOf c)) y) quiet 0 (number Idle) (getD w 23 0))) q))

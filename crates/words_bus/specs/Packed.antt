@@ -1,17 +1,19 @@
 -- The state that the words hold, which words are the packing of a well-formed image, and what a step on them promises.
 use mathlib.Core.Path.{_≡_}
-use mathlib.Core.Bool.{Bool, false, true, _&&_, _||_}
+use mathlib.Core.Bool.{Bool, false, true, _&&_}
 use mathlib.Core.List.{List, [], _∷_}
 use Prim.Native.Nat.{ℕ, zero, suc, _-_, _/_, _%_, _^_, _<_}
 use lib.Bits.{bitOr}
-use lib.Dec.{eqb, ltb}
+use lib.Dec.{ltb}
 use lib.ListN.{getD}
 use Rattle.map.specs.Map.{Part, reserved}
 use Rattle.device_rules.specs.Device.{State, Outcome, state, out}
 use Rattle.device_rules.specs.declared.Answer.{Answer}
 use Rattle.device_rules.specs.declared.Answer.the-variants.{Nothing, Ack, Nak, Byte, Refused}
 use Rattle.device_rules.specs.Refusals.{stepped}
-use Rattle.words.specs.Words.{partOf, coreIn, wideOf, portKindWord, debounceEnableWord, debounceCountWord, Fit}
+use Rattle.registers.specs.Registers.{Core}
+use Rattle.registers.specs.Interrupt.{workedOut}
+use Rattle.words.specs.Words.{partOf, coreIn, interruptIn, wideOf, portKindWord, debounceEnableWord, debounceCountWord, Fit}
 use Rattle.words_rows.specs.Rows.{rowAt}
 
 abbrev pub pointerWord : ℕ
@@ -27,16 +29,17 @@ abbrev pub partWord : ℕ
 partWord = 27
 
 abbrev pub stateIn : Part → List ℕ → State
-stateIn p w = state (coreIn p w) (getD w pointerWord 0) (getD w busWord 0) (getD w choiceWord 0)
+stateIn p w = state (coreIn p w) (interruptIn w) (getD w pointerWord 0) (getD w busWord 0) (getD w choiceWord 0)
 
 -- words that nothing uses yet
 abbrev pub unused : ℕ → Bool
-unused s = eqb s 19 || (eqb s 20 || (ltb 23 s && ltb s 27))
+unused s = ltb 23 s && ltb s 27
 
--- the words are the packing of a well-formed image of part c
+-- the words are the packing of a well-formed image of part c: what is kept of the interrupt is what the rules work out
 pub record Packed (c : ℕ) (w : List ℕ) : Type 0 where
   pub known-part : c < 2
   pub fit : Fit (partOf c) w
+  pub right : interruptIn w ≡ workedOut (partOf c) (coreIn (partOf c) w)
   pub none : (s : ℕ) → unused s ≡ true → getD w s 0 ≡ 0
   pub pointer-known : reserved (partOf c) (getD w pointerWord 0) ≡ false
   pub bus-small : getD w busWord 0 < 8
@@ -47,6 +50,13 @@ pub record Packed (c : ℕ) (w : List ℕ) : Type 0 where
 pub record Standing (row number : ℕ) (w : List ℕ) : Type 0 where
   pub packed : Packed (getD w partWord 0) w
   pub row-is : row ≡ rowAt (partOf (getD w partWord 0)) number
+
+-- the words after registers and pins became those: what is kept of the interrupt is right for them, and the other words stay
+pub record Becomes (c : ℕ) (w w' : List ℕ) (after : Core) : Type 0 where
+  pub core : coreIn (partOf c) w' ≡ after
+  pub fit : Fit (partOf c) w'
+  pub right : interruptIn w' ≡ workedOut (partOf c) after
+  pub rest : (s : ℕ) → 20 < s → getD w' s 0 ≡ getD w s 0
 
 -- an answer as one number: its kind, and from bit 8 on the byte read or the refusal's number
 abbrev pub answerAt : ℕ → Answer
@@ -72,6 +82,7 @@ pub record Judged (c : ℕ) (w : List ℕ) (row : ℕ) : Type 0 where
 -- what the image test asks of the words alone, the pointer's register apart
 pub record Bounded (c : ℕ) (w : List ℕ) : Type 0 where
   pub fit : Fit (partOf c) w
+  pub right : interruptIn w ≡ workedOut (partOf c) (coreIn (partOf c) w)
   pub none : (s : ℕ) → unused s ≡ true → getD w s 0 ≡ 0
   pub pointer-small : getD w pointerWord 0 < 128
   pub bus-small : getD w busWord 0 < 8
@@ -90,7 +101,7 @@ abbrev pub unionTo : List ℕ → ℕ → ℕ
 unionTo w zero = getD w 0 0
 unionTo w (suc n) = bitOr (unionTo w n) (getD w (suc n) 0)
 
--- the words after a reset but for the pins
+-- the words after a reset but for the pins: no status bit, INT quiet
 abbrev pub resetWords : (pins choice part : ℕ) → List ℕ
 resetWords pins choice part =
-    0 ∷ 0 ∷ 0 ∷ 0 ∷ pins ∷ 0 ∷ pins ∷ 0 ∷ 0 ∷ 0 ∷ pins ∷ 0 ∷ 0 ∷ pins ∷ pins ∷ 0 ∷ pins ∷ 0 ∷ 0 ∷ 0 ∷ 0 ∷ 0 ∷ 0 ∷ choice ∷ 0 ∷ 0 ∷ 0 ∷ part ∷ []
+    0 ∷ 0 ∷ 0 ∷ 0 ∷ pins ∷ 0 ∷ pins ∷ 0 ∷ 0 ∷ 0 ∷ pins ∷ 0 ∷ 0 ∷ pins ∷ pins ∷ 0 ∷ pins ∷ 0 ∷ 0 ∷ 0 ∷ 1 ∷ 0 ∷ 0 ∷ choice ∷ 0 ∷ 0 ∷ 0 ∷ part ∷ []

@@ -1,7 +1,7 @@
 // The bus on words that are packed: what every event does, for either part.
 ghost use mathlib.Core.Path.{_≡_};
 ghost use mathlib.Core.Bool.{true, false};
-ghost use Prim.Native.Nat.{ℕ, _-_, _/_, _%_, _^_};
+ghost use Prim.Native.Nat.{ℕ, _-_, _/_, _%_, _^_, _<_};
 ghost use lib.ListN.{getD, set};
 ghost use Rattle.device_rules.specs.Device.{out, byteIn, resetted, step as stepOf};
 ghost use Rattle.device_rules.specs.Device.Bus.{Opened, Chosen, Filling, Call};
@@ -9,9 +9,10 @@ ghost use Rattle.device_rules.specs.Device.Event.{Stop, ByteSent, ByteFetched};
 ghost use Rattle.device_rules.specs.declared.Answer.the-variants.{Byte};
 ghost use Rattle.device_rules.specs.Refusals.{stepped};
 ghost use Rattle.device_rules.specs.Answers.{answerByte};
-ghost use Rattle.words.specs.Words.{partOf};
+ghost use Rattle.registers.specs.Registers.{written, fetched, levelled};
+ghost use Rattle.words.specs.Words.{partOf, coreIn, PinLevels};
 ghost use Rattle.words_rows.specs.Rows.{rowAt};
-ghost use Rattle.words_bus.specs.Packed.{stateIn, answerAt, resetWords, Packed, Standing, Leaves};
+ghost use Rattle.words_bus.specs.Packed.{stateIn, answerAt, resetWords, Packed, Standing, Becomes, Leaves};
 use device_rules::Answer;
 use device_rules::BYTE;
 use device_rules::FETCH;
@@ -22,6 +23,7 @@ use device_rules::STOP;
 use words::BUS;
 use words::CHOICE;
 use words::CONFIGURATION;
+use words::LINE;
 use words::MASK;
 use words::OUTPUT;
 use words::PART;
@@ -46,6 +48,9 @@ const CALL: u64 = 5;
 const ARMED: u64 = 6;
 
 const DEAF: u64 = 7;
+
+// INT's level where no status bit is 1.
+const QUIET: u64 = 1;
 
 // Answers as one number each, which is handed back in a register: an enum would be stored in parts and loaded whole.
 const NOTHING: u32 = 0;
@@ -135,13 +140,47 @@ fn byte_chosen(words: &mut [u64; 28], wanted: u32, value: u8) -> u32
     goes(words, FILLING, ACK)
 }
 
+// The register at the pointer, whose row is given, is written: the status set and the line follow where that can change them.
+fn write(words: &mut [u64; 28], row: u32, value: u8)
+    requires { ⌜ Standing row (getD (now words) 21 0) (now words) ⌝ }
+    ensures { λ r. ⌜ ((c : ℕ) → Packed c (now (words .entry)) → row ≡ rowAt (partOf c) (getD (now (words .entry)) 21 0)
+        → Becomes c (now (words .entry)) (now (words .exit)) (written (partOf c) (coreIn (partOf c) (now (words .entry))) (getD (now (words .entry)) 21 0) value)) ⌝ }
+{
+    words_writes::write_register(words, row, value);
+    if words_rows::rings(row) {
+        words_views::keep(words);
+    }
+}
+
+// What a fetch of it does: only an input port register settles pins, and so changes a status bit.
+fn settle(words: &mut [u64; 28], row: u32)
+    requires { ⌜ Standing row (getD (now words) 21 0) (now words) ⌝ }
+    ensures { λ r. ⌜ ((c : ℕ) → Packed c (now (words .entry)) → row ≡ rowAt (partOf c) (getD (now (words .entry)) 21 0)
+        → Becomes c (now (words .entry)) (now (words .exit)) (fetched (partOf c) (coreIn (partOf c) (now (words .entry))) (getD (now (words .entry)) 21 0))) ⌝ }
+{
+    words_views::settle(words, row);
+    if words_rows::rule(row) == words_rows::INPUT {
+        words_views::keep(words);
+    }
+}
+
+// The levels become those of new.
+fn set_levels(words: &mut [u64; 28], new: u64)
+    requires { ⌜ PinLevels new (now words) ⌝ }
+    ensures { λ r. ⌜ ((c : ℕ) → Packed c (now (words .entry)) → new < 2 ^ partOf c .width
+        → Becomes c (now (words .entry)) (now (words .exit)) (levelled (partOf c) (coreIn (partOf c) (now (words .entry))) new)) ⌝ }
+{
+    words_views::set_levels(words, new);
+    words_views::keep(words);
+}
+
 // A byte in Filling: the register at the pointer, whose row is given, is written, and the pointer steps.
 fn byte_filling(words: &mut [u64; 28], row: u32, value: u8) -> u32
     requires { ⌜ Standing row (getD (now words) 21 0) (now words) × (getD (now words) 22 0 ≡ 3) ⌝ }
     ensures { λ a. ⌜ ((c : ℕ) → Packed c (now (words .entry)) → getD (now (words .entry)) 22 0 ≡ 3 → row ≡ rowAt (partOf c) (getD (now (words .entry)) 21 0)
         → Leaves c (now (words .exit)) (answerAt a) (byteIn (partOf c) Filling (stateIn (partOf c) (now (words .entry))) value)) ⌝ }
 {
-    words_writes::write_register(words, row, value);
+    write(words, row, value);
     let next = words_rows::successor(row);
     words[POINTER] = next;
     ACK
@@ -184,7 +223,7 @@ fn fetch(words: &mut [u64; 28], row: u32, acknowledged: bool) -> u32
         return read(0xff);
     }
     let shown = words_views::show(&*words, row);
-    words_views::settle(words, row);
+    settle(words, row);
     if acknowledged {
         words[POINTER] = words_rows::successor(row);
         return read(shown);
@@ -204,6 +243,7 @@ pub fn put_defaults(words: &mut [u64; 28], pins: u64, choice: u64, part: u64)
     words[STRENGTH_LOW] = pins;
     words[STRENGTH_HIGH] = pins;
     words[PULL_SELECT] = pins;
+    words[LINE] = QUIET;
     words[CHOICE] = choice;
     words[PART] = part;
 }
@@ -283,7 +323,7 @@ pub fn event(words: &mut [u64; 28], pins: u64, row: u32, kind: u32, arg: u64) ->
             if pins < arg {
                 return WRONG_ARGUMENT;
             }
-            words_views::set_levels(words, arg);
+            set_levels(words, arg);
             NOTHING
         }
         RESET => {

@@ -6,13 +6,14 @@ use Prim.Native.Nat.{ℕ, zero, suc, _-_, _/_, _%_, _^_, _<_, _≤_}
 use native.Mathlib.Nat.{div-add-mod', mod-lt}
 use native.Mathlib.Omega.{arith}
 use borrow.Author.Tests.{eqb-true, eqb-false, ltb-false, le-ltb}
-use lib.Bits.{bitOr}
+use lib.Bits.{bitOr, bitXor, xor-self, xor-add-and, and-le-l, and-le-r}
 use lib.Dec.{eqb, ltb}
 use lib.ListN.{length, getD}
 use Rattle.bits.specs.Bits.{bit, without}
 use Rattle.bits.proofs.Decide.{clash}
 use Rattle.bits.proofs.Laws.{bit-zero, bit-or, bit-without}
-use Rattle.words.specs.Words.{partOf, wideOf, Fit}
+use Rattle.registers.specs.Interrupt.{workedOut}
+use Rattle.words.specs.Words.{partOf, coreIn, interruptIn, wideOf, Fit}
 use Rattle.words.proofs.Sound.{sound}
 use Rattle.words.proofs.Holding.{small-of-clear, pin-word}
 use Rattle.words.proofs.Existing.{ones-bit}
@@ -76,7 +77,7 @@ module _ (c : ℕ) (w : List ℕ) (pins kinds enables counts : ℕ) (lim : Limit
   Spare = bitOr (bitOr (bitOr (without (unionTo w 16) pins) (without (getD w 7 0) kinds)) (without (getD w 17 0) enables)) (without (getD w 18 0) counts)
 
   abbrev Odd : ℕ
-  Odd = bitOr (bitOr (bitOr (bitOr (bitOr (bitOr (bitOr (getD w 21 0 / 2 ^ 7) (getD w 22 0 / 2 ^ 3)) (getD w 23 0 / 2 ^ 2)) (getD w 19 0)) (getD w 20 0)) (getD w 24 0)) (getD w 25 0)) (getD w 26 0)
+  Odd = bitOr (bitOr (bitOr (bitOr (bitOr (getD w 21 0 / 2 ^ 7) (getD w 22 0 / 2 ^ 3)) (getD w 23 0 / 2 ^ 2)) (getD w 24 0)) (getD w 25 0)) (getD w 26 0)
 
   mask-bit : {m : ℕ} (wide i : ℕ) → m ≡ 2 ^ wide - 1 → bit m i ≡ ltb i wide
   mask-bit wide i e = ap (λ (x : ℕ). bit x i) e ∙ ones-bit wide i
@@ -125,32 +126,51 @@ module _ (c : ℕ) (w : List ℕ) (pins kinds enables counts : ℕ) (lim : Limit
           let l : t < 19 = omega arith in
           fit .clear t i l (le-ltb i (wideOf (partOf c) t) (omega (arith, past, ltb-false (partOf c .width) (wideOf (partOf c) t) (sound c .most t l))))))
 
-  pub tested : length w ≡ 28 → getD w 27 0 ≡ c → bitOr Spare Odd ≡ 0 → Bounded c w
-  tested full part e =
-      let both = or-zero Spare Odd e in
-      let e7 = or-zero (bitOr (bitOr (bitOr (bitOr (bitOr (bitOr (getD w 21 0 / 2 ^ 7) (getD w 22 0 / 2 ^ 3)) (getD w 23 0 / 2 ^ 2)) (getD w 19 0)) (getD w 20 0)) (getD w 24 0)) (getD w 25 0)) (getD w 26 0) (both .1) in
-      let e6 = or-zero (bitOr (bitOr (bitOr (bitOr (bitOr (getD w 21 0 / 2 ^ 7) (getD w 22 0 / 2 ^ 3)) (getD w 23 0 / 2 ^ 2)) (getD w 19 0)) (getD w 20 0)) (getD w 24 0)) (getD w 25 0) (e7 .0) in
-      let e5 = or-zero (bitOr (bitOr (bitOr (bitOr (getD w 21 0 / 2 ^ 7) (getD w 22 0 / 2 ^ 3)) (getD w 23 0 / 2 ^ 2)) (getD w 19 0)) (getD w 20 0)) (getD w 24 0) (e6 .0) in
-      let e4 = or-zero (bitOr (bitOr (bitOr (getD w 21 0 / 2 ^ 7) (getD w 22 0 / 2 ^ 3)) (getD w 23 0 / 2 ^ 2)) (getD w 19 0)) (getD w 20 0) (e5 .0) in
-      let e3 = or-zero (bitOr (bitOr (getD w 21 0 / 2 ^ 7) (getD w 22 0 / 2 ^ 3)) (getD w 23 0 / 2 ^ 2)) (getD w 19 0) (e4 .0) in
+  -- what the stale bits say: none exactly if what is kept of the interrupt is right
+  abbrev pub Stale : ℕ → Type 0
+  Stale s = Fit (partOf c) w
+      → (s ≡ 0 → interruptIn w ≡ workedOut (partOf c) (coreIn (partOf c) w)) × (interruptIn w ≡ workedOut (partOf c) (coreIn (partOf c) w) → s ≡ 0)
+
+  pub tested : (stale : ℕ) → Stale stale → length w ≡ 28 → getD w 27 0 ≡ c → bitOr (bitOr Spare Odd) stale ≡ 0 → Bounded c w
+  tested stale says full part e =
+      let all = or-zero (bitOr Spare Odd) stale e in
+      let both = or-zero Spare Odd (all .0) in
+      let fit = fit-of-spare full (both .0) in
+      let e5 = or-zero (bitOr (bitOr (bitOr (bitOr (getD w 21 0 / 2 ^ 7) (getD w 22 0 / 2 ^ 3)) (getD w 23 0 / 2 ^ 2)) (getD w 24 0)) (getD w 25 0)) (getD w 26 0) (both .1) in
+      let e4 = or-zero (bitOr (bitOr (bitOr (getD w 21 0 / 2 ^ 7) (getD w 22 0 / 2 ^ 3)) (getD w 23 0 / 2 ^ 2)) (getD w 24 0)) (getD w 25 0) (e5 .0) in
+      let e3 = or-zero (bitOr (bitOr (getD w 21 0 / 2 ^ 7) (getD w 22 0 / 2 ^ 3)) (getD w 23 0 / 2 ^ 2)) (getD w 24 0) (e4 .0) in
       let e2 = or-zero (bitOr (getD w 21 0 / 2 ^ 7) (getD w 22 0 / 2 ^ 3)) (getD w 23 0 / 2 ^ 2) (e3 .0) in
       let e1 = or-zero (getD w 21 0 / 2 ^ 7) (getD w 22 0 / 2 ^ 3) (e2 .0) in
       record {
-        fit = fit-of-spare full (both .0);
-        none = unused-case (λ s. getD w s 0 ≡ 0) (e3 .1) (e4 .1) (e5 .1) (e6 .1) (e7 .1);
+        fit = fit;
+        right = says fit .0 (all .1);
+        none = unused-case (λ s. getD w s 0 ≡ 0) (e3 .1) (e4 .1) (e5 .1);
         pointer-small = let m : getD w 21 0 % 128 < 128 = mod-lt (getD w 21 0) (omega arith) in omega (arith, div-add-mod' (getD w 21 0) 128, e1 .0);
         bus-small = let m : getD w 22 0 % 8 < 8 = mod-lt (getD w 22 0) (omega arith) in omega (arith, div-add-mod' (getD w 22 0) 8, e1 .1);
         choice-small = let m : getD w 23 0 % 4 < 4 = mod-lt (getD w 23 0) (omega arith) in omega (arith, div-add-mod' (getD w 23 0) 4, e2 .1);
         part-is = part;
       }
 
-  pub passes : Bounded c w → bitOr Spare Odd ≡ 0
-  passes b =
+  pub passes : (stale : ℕ) → Stale stale → Bounded c w → bitOr (bitOr Spare Odd) stale ≡ 0
+  passes stale says b =
       let h21 = b .pointer-small in
       let h22 = b .bus-small in
       let h23 = b .choice-small in
       let p : getD w 21 0 / 128 ≡ 0 = omega (arith, div-add-mod' (getD w 21 0) 128) in
       let q : getD w 22 0 / 8 ≡ 0 = omega (arith, div-add-mod' (getD w 22 0) 8) in
       let r : getD w 23 0 / 4 ≡ 0 = omega (arith, div-add-mod' (getD w 23 0) 4) in
-      zero-or (spare-of-fit (b .fit))
-      (zero-or (zero-or (zero-or (zero-or (zero-or (zero-or (zero-or p q) r) (b .none 19 refl)) (b .none 20 refl)) (b .none 24 refl)) (b .none 25 refl)) (b .none 26 refl))
+      zero-or (zero-or (spare-of-fit (b .fit))
+      (zero-or (zero-or (zero-or (zero-or (zero-or p q) r) (b .none 24 refl)) (b .none 25 refl)) (b .none 26 refl)))
+      (says (b .fit) .1 (b .right))
+
+-- ---- what is kept, compared bit by bit with what is worked out
+xor-zero : (a b : ℕ) → bitXor a b ≡ 0 → a ≡ b
+xor-zero a b e = omega (arith, e, xor-add-and a b, and-le-l a b, and-le-r a b)
+
+pub stale-zero : (a b x y : ℕ) → bitOr (bitXor a x) (bitXor b y) ≡ 0 → (a ≡ x) × (b ≡ y)
+stale-zero a b x y e =
+    let both = or-zero (bitXor a x) (bitXor b y) e in
+    (xor-zero a x (both .0), xor-zero b y (both .1))
+
+pub zero-stale : (a b : ℕ) {x y : ℕ} → a ≡ x → b ≡ y → bitOr (bitXor a x) (bitXor b y) ≡ 0
+zero-stale a b e f = zero-or (ap (bitXor a) (sym e) ∙ xor-self a) (ap (bitXor b) (sym f) ∙ xor-self b)

@@ -5,6 +5,8 @@ ghost use Prim.Native.Nat.{ℕ, _/_, _^_};
 ghost use lib.Bits.{bitOr};
 ghost use lib.ListN.{getD};
 ghost use Rattle.bits.specs.Bits.{without};
+ghost use Rattle.registers.specs.Interrupt.{workedOut};
+ghost use Rattle.words.specs.Words.{partOf, coreIn, interruptIn, Fit};
 ghost use Rattle.words_bus.specs.Packed.{unionTo, Packed, Judged, Bounded, Limits};
 use map::DEBOUNCE_COUNT24;
 use map::DEBOUNCE_COUNT34;
@@ -18,9 +20,11 @@ use words::BUS;
 use words::CHOICE;
 use words::DEBOUNCE_COUNT;
 use words::DEBOUNCE_ENABLE;
+use words::LINE;
 use words::PART;
 use words::POINTER;
 use words::PORT_KIND;
+use words::STATUS;
 
 // The bits that are set in some word of pins: the port kind among them, debounce not, which have limits of their own.
 fn union(words: &[u64; 28]) -> u64
@@ -48,12 +52,22 @@ fn spare(words: &[u64; 28], pins: u64, kinds: u64, enables: u64, counts: u64) ->
 
 // What is set in the other words, and may not be.
 fn odd(words: &[u64; 28]) -> u64
-    ensures { λ s. ⌜ s ≡ bitOr (bitOr (bitOr (bitOr (bitOr (bitOr (bitOr (getD (now (words .entry)) 21 0 / 2 ^ 7) (getD (now (words .entry)) 22 0 / 2 ^ 3))
-        (getD (now (words .entry)) 23 0 / 2 ^ 2)) (getD (now (words .entry)) 19 0)) (getD (now (words .entry)) 20 0)) (getD (now (words .entry)) 24 0))
-        (getD (now (words .entry)) 25 0)) (getD (now (words .entry)) 26 0) ⌝ }
+    ensures { λ s. ⌜ s ≡ bitOr (bitOr (bitOr (bitOr (bitOr (getD (now (words .entry)) 21 0 / 2 ^ 7) (getD (now (words .entry)) 22 0 / 2 ^ 3))
+        (getD (now (words .entry)) 23 0 / 2 ^ 2)) (getD (now (words .entry)) 24 0)) (getD (now (words .entry)) 25 0)) (getD (now (words .entry)) 26 0) ⌝ }
 {
     let small = (words[POINTER] >> 7) | (words[BUS] >> 3) | (words[CHOICE] >> 2);
-    small | words[19] | words[20] | words[24] | words[25] | words[26]
+    small | words[24] | words[25] | words[26]
+}
+
+// In which bits the status set and the line are not what the rules work out.
+fn stale(words: &[u64; 28]) -> u64
+    ensures { λ s. ⌜ ((c : ℕ) → Fit (partOf c) (now (words .entry))
+        → (s ≡ 0 → interruptIn (now (words .entry)) ≡ workedOut (partOf c) (coreIn (partOf c) (now (words .entry))))
+        × (interruptIn (now (words .entry)) ≡ workedOut (partOf c) (coreIn (partOf c) (now (words .entry))) → s ≡ 0)) ⌝ }
+{
+    let status = words_views::statuses(words);
+    let line = words_views::line_of(status);
+    (words[STATUS] ^ status) | (words[LINE] ^ line)
 }
 
 // Whether the words may stand, the pointer's register apart.
@@ -65,7 +79,7 @@ fn bounded(words: &[u64; 28], pins: u64, kinds: u64, enables: u64, counts: u64, 
     if words[PART] != part {
         return false;
     }
-    spare(words, pins, kinds, enables, counts) | odd(words) == 0
+    spare(words, pins, kinds, enables, counts) | odd(words) | stale(words) == 0
 }
 
 // The row of the register at the pointer, if the words are the packing of a well-formed image of the 24-pin part; else 0.

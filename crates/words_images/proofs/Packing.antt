@@ -18,8 +18,11 @@ use Rattle.device_rules.specs.Device.{State, state, out}
 use Rattle.device_rules.specs.Held.{stateOf}
 use Rattle.device_rules.specs.declared.Answer.{Answer}
 use Rattle.device_rules.proofs.Stepping.{same-state}
-use Rattle.device_rules.specs.Refusals.{setsFit, imageFits, stepped}
-use Rattle.words.specs.Words.{partOf, fileOf, setsIn, withSets, Fit, Holds}
+use Rattle.device_rules.specs.Refusals.{setsFit, interruptFits, imageFits, stepped}
+use Rattle.device_rules.proofs.Images.{right-of}
+use Rattle.registers.specs.Interrupt.{interrupt, workedOut}
+use Rattle.registers.proofs.Kept.{same-interrupt, line-small}
+use Rattle.words.specs.Words.{partOf, fileOf, setsIn, withSets, coreIn, interruptIn, Fit, Holds}
 use Rattle.words.proofs.Sound.{sound}
 use Rattle.words.proofs.Holding.{within, sets-there, holds-sets}
 use Rattle.words_bus.specs.Packed.{stateIn, Packed, Steps}
@@ -34,11 +37,12 @@ pub record Fitting (p : Part) (s : State) : Type 0 where
   pub choice-small : s .choice < 4
   pub within : Within (p .width) (s .regs .sets)
   pub file-fits : fileFits p (s .regs .file) ≡ true
+  pub right : s .interrupt ≡ workedOut p (s .regs)
 
 pub fitting-of : (p : Part) (s : State) → imageFits p s ≡ true → Fitting p s
 unfolding imageFits setsFit
 fitting-of p s e = go (not (reserved p (s .pointer))) (ltb (s .bus) 8) (ltb (s .choice) 4) (ltb (x .level) m) (ltb (x .reference) m) (ltb (x .held) m) (ltb (x .edge) m)
-    (fileFits p (s .regs .file)) refl refl refl refl refl refl refl refl e
+    (fileFits p (s .regs .file)) (interruptFits p s) refl refl refl refl refl refl refl refl refl e
   where
     x : Sets
     x = s .regs .sets
@@ -46,29 +50,31 @@ fitting-of p s e = go (not (reserved p (s .pointer))) (ltb (s .bus) 8) (ltb (s .
     m : ℕ
     m = 2 ^ p .width
 
-    go : (k b c l r h d f : Bool) → not (reserved p (s .pointer)) ≡ k → ltb (s .bus) 8 ≡ b → ltb (s .choice) 4 ≡ c → ltb (x .level) m ≡ l → ltb (x .reference) m ≡ r
-        → ltb (x .held) m ≡ h → ltb (x .edge) m ≡ d → fileFits p (s .regs .file) ≡ f → (k && (b && (c && ((l && (r && (h && d))) && f)))) ≡ true → Fitting p s
-    go k b c l r h d f ek eb ec el er eh ed ef e =
-        let a1 = and-right k (b && (c && ((l && (r && (h && d))) && f))) e in
-        let a2 = and-right b (c && ((l && (r && (h && d))) && f)) a1 in
-        let a3 = and-right c ((l && (r && (h && d))) && f) a2 in
-        let s1 = and-left (l && (r && (h && d))) f a3 in
+    go : (k b c l r h d f i : Bool) → not (reserved p (s .pointer)) ≡ k → ltb (s .bus) 8 ≡ b → ltb (s .choice) 4 ≡ c → ltb (x .level) m ≡ l → ltb (x .reference) m ≡ r
+        → ltb (x .held) m ≡ h → ltb (x .edge) m ≡ d → fileFits p (s .regs .file) ≡ f → interruptFits p s ≡ i → (k && (b && (c && ((l && (r && (h && d))) && (f && i))))) ≡ true → Fitting p s
+    go k b c l r h d f i ek eb ec el er eh ed ef ei e =
+        let a1 = and-right k (b && (c && ((l && (r && (h && d))) && (f && i)))) e in
+        let a2 = and-right b (c && ((l && (r && (h && d))) && (f && i))) a1 in
+        let a3 = and-right c ((l && (r && (h && d))) && (f && i)) a2 in
+        let a4 = and-right (l && (r && (h && d))) (f && i) a3 in
+        let s1 = and-left (l && (r && (h && d))) (f && i) a3 in
         let s2 = and-right l (r && (h && d)) s1 in
         let s3 = and-right r (h && d) s2 in
         record {
-          pointer-known = not-true _ (ek ∙ and-left k (b && (c && ((l && (r && (h && d))) && f))) e);
-          bus-small = ltb-true (s .bus) 8 (eb ∙ and-left b (c && ((l && (r && (h && d))) && f)) a1);
-          choice-small = ltb-true (s .choice) 4 (ec ∙ and-left c ((l && (r && (h && d))) && f) a2);
+          pointer-known = not-true _ (ek ∙ and-left k (b && (c && ((l && (r && (h && d))) && (f && i)))) e);
+          bus-small = ltb-true (s .bus) 8 (eb ∙ and-left b (c && ((l && (r && (h && d))) && (f && i))) a1);
+          choice-small = ltb-true (s .choice) 4 (ec ∙ and-left c ((l && (r && (h && d))) && (f && i)) a2);
           within = record {
             level-small = ltb-true (x .level) m (el ∙ and-left l (r && (h && d)) s1);
             reference-small = ltb-true (x .reference) m (er ∙ and-left r (h && d) s2);
             held-small = ltb-true (x .held) m (eh ∙ and-left h d s3);
             edge-small = ltb-true (x .edge) m (ed ∙ and-right h d s3);
           };
-          file-fits = ef ∙ and-right (l && (r && (h && d))) f a3;
+          file-fits = ef ∙ and-left f i a4;
+          right = right-of p s (ei ∙ and-right f i a4);
         }
 
-module _ (c : ℕ) (hc : c < 2) (u : List ℕ) (fit : Fit (partOf c) u) (zeros : (s : ℕ) → 18 < s → getD u s 0 ≡ 0) (x : Sets) (pointer bus choice : ℕ)
+module _ (c : ℕ) (hc : c < 2) (u : List ℕ) (fit : Fit (partOf c) u) (zeros : (s : ℕ) → 18 < s → getD u s 0 ≡ 0) (x : Sets) (pointer bus choice status line : ℕ)
     (d : Within (partOf c .width) x) where
   held : Holds (partOf c) u (withSets u x) (core (fileOf (partOf c) u) x)
   held = holds-sets (partOf c) (sound c) u u x fit d refl (λ s h. refl)
@@ -86,7 +92,13 @@ module _ (c : ℕ) (hc : c < 2) (u : List ℕ) (fit : Fit (partOf c) u) (zeros :
   w3 = set w2 23 choice
 
   abbrev w4 : List ℕ
-  w4 = set w3 27 c
+  w4 = set w3 19 status
+
+  abbrev w5 : List ℕ
+  w5 = set w4 20 line
+
+  abbrev w6 : List ℕ
+  w6 = set w5 27 c
 
   fit1 : Fit (partOf c) w1
   fit1 = fit-past c w0 21 pointer (omega arith) (held .fit)
@@ -97,57 +109,77 @@ module _ (c : ℕ) (hc : c < 2) (u : List ℕ) (fit : Fit (partOf c) u) (zeros :
   fit3 : Fit (partOf c) w3
   fit3 = fit-past c w2 23 choice (omega arith) fit2
 
-  at-pointer : getD w4 21 0 ≡ pointer
-  at-pointer =
-      getD-set-other w3 27 21 c 0 (λ e. omega (arith, e)) ∙ getD-set-other w2 23 21 choice 0 (λ e. omega (arith, e)) ∙ getD-set-other w1 22 21 bus 0 (λ e. omega (arith, e))
-      ∙ getD-set-same w0 21 pointer 0 (omega (arith, held .fit .full))
+  fit4 : Fit (partOf c) w4
+  fit4 = fit-past c w3 19 status (omega arith) fit3
 
-  at-bus : getD w4 22 0 ≡ bus
+  fit5 : Fit (partOf c) w5
+  fit5 = fit-past c w4 20 line (omega arith) fit4
+
+  -- a word that the last three stores do not reach
+  before-kept : (s : ℕ) → (s ≡ 19 → ⊥) → (s ≡ 20 → ⊥) → (s ≡ 27 → ⊥) → getD w6 s 0 ≡ getD w3 s 0
+  before-kept s a b e = getD-set-other w5 27 s c 0 e ∙ getD-set-other w4 20 s line 0 b ∙ getD-set-other w3 19 s status 0 a
+
+  at-pointer : getD w6 21 0 ≡ pointer
+  at-pointer =
+      before-kept 21 (λ e. omega (arith, e)) (λ e. omega (arith, e)) (λ e. omega (arith, e)) ∙ getD-set-other w2 23 21 choice 0 (λ e. omega (arith, e))
+      ∙ getD-set-other w1 22 21 bus 0 (λ e. omega (arith, e)) ∙ getD-set-same w0 21 pointer 0 (omega (arith, held .fit .full))
+
+  at-bus : getD w6 22 0 ≡ bus
   at-bus =
-      getD-set-other w3 27 22 c 0 (λ e. omega (arith, e)) ∙ getD-set-other w2 23 22 choice 0 (λ e. omega (arith, e))
+      before-kept 22 (λ e. omega (arith, e)) (λ e. omega (arith, e)) (λ e. omega (arith, e)) ∙ getD-set-other w2 23 22 choice 0 (λ e. omega (arith, e))
       ∙ getD-set-same w1 22 bus 0 (omega (arith, fit1 .full))
 
-  at-choice : getD w4 23 0 ≡ choice
-  at-choice =
-      getD-set-other w3 27 23 c 0 (λ e. omega (arith, e))
-      ∙ getD-set-same w2 23 choice 0 (omega (arith, fit2 .full))
+  at-choice : getD w6 23 0 ≡ choice
+  at-choice = before-kept 23 (λ e. omega (arith, e)) (λ e. omega (arith, e)) (λ e. omega (arith, e)) ∙ getD-set-same w2 23 choice 0 (omega (arith, fit2 .full))
 
-  unused-zero : (s : ℕ) → 18 < s → (s ≡ 21 → ⊥) → (s ≡ 22 → ⊥) → (s ≡ 23 → ⊥) → (s ≡ 27 → ⊥) → getD w4 s 0 ≡ 0
-  unused-zero s h a b e f =
-      getD-set-other w3 27 s c 0 f ∙ getD-set-other w2 23 s choice 0 e ∙ getD-set-other w1 22 s bus 0 b ∙ getD-set-other w0 21 s pointer 0 a ∙ held .rest s h ∙ zeros s h
+  kept : interruptIn w6 ≡ interrupt status line
+  kept =
+      same-interrupt
+      (getD-set-other w5 27 19 c 0 (λ e. omega (arith, e)) ∙ getD-set-other w4 20 19 line 0 (λ e. omega (arith, e)) ∙ getD-set-same w3 19 status 0 (omega (arith, fit3 .full)))
+      (getD-set-other w5 27 20 c 0 (λ e. omega (arith, e)) ∙ getD-set-same w4 20 line 0 (omega (arith, fit4 .full)))
 
-  pub packed-state : stateIn (partOf c) w4 ≡ state (core (fileOf (partOf c) u) x) pointer bus choice
-  packed-state =
-      same-state
-      (core-past c w3 27 c (omega arith) ∙ core-past c w2 23 choice (omega arith) ∙ core-past c w1 22 bus (omega arith) ∙ core-past c w0 21 pointer (omega arith) ∙ held .core)
-      at-pointer at-bus at-choice
+  unused-zero : (s : ℕ) → 23 < s → s < 27 → getD w6 s 0 ≡ 0
+  unused-zero s h l =
+      before-kept s (λ e. omega (arith, e)) (λ e. omega (arith, e)) (λ e. omega (arith, e))
+      ∙ getD-set-other w2 23 s choice 0 (λ e. omega (arith, e)) ∙ getD-set-other w1 22 s bus 0 (λ e. omega (arith, e)) ∙ getD-set-other w0 21 s pointer 0 (λ e. omega (arith, e))
+      ∙ held .rest s (omega arith) ∙ zeros s (omega arith)
 
-  pub packed-words : reserved (partOf c) pointer ≡ false → bus < 8 → choice < 4 → Packed c w4
-  packed-words known hb hch = record {
+  regs : coreIn (partOf c) w6 ≡ core (fileOf (partOf c) u) x
+  regs =
+      core-past c w5 27 c (omega arith) ∙ core-past c w4 20 line (omega arith) ∙ core-past c w3 19 status (omega arith)
+      ∙ core-past c w2 23 choice (omega arith) ∙ core-past c w1 22 bus (omega arith) ∙ core-past c w0 21 pointer (omega arith) ∙ held .core
+
+  pub packed-state : stateIn (partOf c) w6 ≡ state (core (fileOf (partOf c) u) x) (interrupt status line) pointer bus choice
+  packed-state = same-state regs kept at-pointer at-bus at-choice
+
+  pub packed-words : reserved (partOf c) pointer ≡ false → bus < 8 → choice < 4 → interrupt status line ≡ workedOut (partOf c) (core (fileOf (partOf c) u) x) → Packed c w6
+  packed-words known hb hch right = record {
     known-part = hc;
-    fit = fit-past c w3 27 c (omega arith) fit3;
-    none = unused-case (λ s. getD w4 s 0 ≡ 0) (unused-zero 19 (omega arith) (λ e. omega (arith, e)) (λ e. omega (arith, e)) (λ e. omega (arith, e)) (λ e. omega (arith, e))) (unused-zero 20 (omega arith) (λ e. omega (arith, e)) (λ e. omega (arith, e)) (λ e. omega (arith, e)) (λ e. omega (arith, e))) (unused-zero 24 (omega arith) (λ e. omega (arith, e)) (λ e. omega (arith, e)) (λ e. omega (arith, e)) (λ e. omega (arith, e))) (unused-zero 25 (omega arith) (λ e. omega (arith, e)) (λ e. omega (arith, e)) (λ e. omega (arith, e)) (λ e. omega (arith, e))) (unused-zero 26 (omega arith) (λ e. omega (arith, e)) (λ e. omega (arith, e)) (λ e. omega (arith, e)) (λ e. omega (arith, e)));
+    fit = fit-past c w5 27 c (omega arith) fit5;
+    right = kept ∙ right ∙ ap (workedOut (partOf c)) (sym regs);
+    none = unused-case (λ s. getD w6 s 0 ≡ 0) (unused-zero 24 (omega arith) (omega arith)) (unused-zero 25 (omega arith) (omega arith)) (unused-zero 26 (omega arith) (omega arith));
     pointer-known = ap (reserved (partOf c)) at-pointer ∙ known;
     bus-small = rw at-bus hb;
     choice-small = rw at-choice hch;
-    part-is = getD-set-same w3 27 c 0 (omega (arith, fit3 .full));
+    part-is = getD-set-same w5 27 c 0 (omega (arith, fit5 .full));
   }
 
 -- ---- words made of an image, judged
 module _ (c : ℕ) (u file : List ℕ) (fit : Fit (partOf c) u) (zeros : (s : ℕ) → 18 < s → getD u s 0 ≡ 0)
-    (taken : fileFits (partOf c) file ≡ true → fileOf (partOf c) u ≡ file) (x : Sets) (pointer bus choice : ℕ) where
+    (taken : fileFits (partOf c) file ≡ true → fileOf (partOf c) u ≡ file) (x : Sets) (pointer bus choice status line : ℕ) where
   abbrev image : State
-  image = state (core file x) pointer bus choice
+  image = state (core file x) (interrupt status line) pointer bus choice
 
   abbrev made : List ℕ
-  made = set (set (set (set (withSets u x) 21 pointer) 22 bus) 23 choice) 27 c
+  made = set (set (set (set (set (set (withSets u x) 21 pointer) 22 bus) 23 choice) 19 status) 20 line) 27 c
 
   would-fit : c < 2 → imageFits (partOf c) image ≡ true → Packed c made × (stateIn (partOf c) made ≡ image)
   would-fit h e =
       let f = fitting-of (partOf c) image e in (
-        packed-words c h u fit zeros x pointer bus choice (f .within) (f .pointer-known) (f .bus-small) (f .choice-small),
-        packed-state c h u fit zeros x pointer bus choice (f .within)
-            ∙ ap (λ (l : List ℕ). state (core l x) pointer bus choice) (taken (f .file-fits)),
+        packed-words c h u fit zeros x pointer bus choice status line (f .within) (f .pointer-known) (f .bus-small) (f .choice-small)
+            (f .right ∙ ap (λ (l : List ℕ). workedOut (partOf c) (core l x)) (sym (taken (f .file-fits)))),
+        packed-state c h u fit zeros x pointer bus choice status line (f .within)
+            ∙ ap (λ (l : List ℕ). state (core l x) (interrupt status line) pointer bus choice) (taken (f .file-fits)),
       )
 
   not-judged : (c < 2 → imageFits (partOf c) image ≡ true → ⊥) → (w : List ℕ) → Packs c image false w w
@@ -174,17 +206,17 @@ module _ (c : ℕ) (u file : List ℕ) (fit : Fit (partOf c) u) (zeros : (s : �
       sets : setsIn made ≡ x
       sets =
           ap (λ (r : Core). r .sets)
-          (core-past c _ 27 c (omega arith) ∙ core-past c _ 23 choice (omega arith) ∙ core-past c _ 22 bus (omega arith) ∙ core-past c (withSets u x) 21 pointer (omega arith))
+          (core-past c _ 27 c (omega arith) ∙ core-past c _ 20 line (omega arith) ∙ core-past c _ 19 status (omega arith) ∙ core-past c _ 23 choice (omega arith) ∙ core-past c _ 22 bus (omega arith) ∙ core-past c (withSets u x) 21 pointer (omega arith))
           ∙ sets-there u x (fit .full)
 
       inside : Within (partOf c .width) x
       inside = subst (Within (partOf c .width)) sets (within (partOf c) (sound c) made (k .fit))
 
-      held : stateIn (partOf c) made ≡ state (core (fileOf (partOf c) u) x) pointer bus choice
-      held = packed-state c (k .known-part) u fit zeros x pointer bus choice inside
+      held : stateIn (partOf c) made ≡ state (core (fileOf (partOf c) u) x) (interrupt status line) pointer bus choice
+      held = packed-state c (k .known-part) u fit zeros x pointer bus choice status line inside
 
       same : stateIn (partOf c) made ≡ image
-      same = held ∙ ap (λ (l : List ℕ). state (core l x) pointer bus choice) (sym (ap (λ (s : State). s .regs .file) held) ∙ e)
+      same = held ∙ ap (λ (l : List ℕ). state (core l x) (interrupt status line) pointer bus choice) (sym (ap (λ (s : State). s .regs .file) held) ∙ e)
 
 -- ---- and back
 small : (x m : ℕ) → x < m → m < 257 → x % 256 ≡ x
@@ -195,6 +227,7 @@ pub unpacked : (c : ℕ) (w : List ℕ) → Packed c w → stateOf (fileOf (part
 unpacked c w k =
     let b = bounded-of c w k in
     same-state (ap (λ (p : ℕ). core (fileOf (partOf p) w) (setsIn w)) (k .part-is))
+    (same-interrupt refl (small (getD w 20 0) 2 (line-small (partOf c) (coreIn (partOf c) w) (interruptIn w) (k .right)) (omega arith)))
     (small (getD w 21 0) 128 (b .pointer-small) (omega arith)) (small (getD w 22 0) 8 (b .bus-small) (omega arith)) (small (getD w 23 0) 4 (b .choice-small) (omega arith))
 
 -- the image of packed words, packed again, gives the same words

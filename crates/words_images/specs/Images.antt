@@ -8,7 +8,7 @@ use lib.ListN.{getD}
 use Rattle.device_rules.specs.Device.{State}
 use Rattle.device_rules.specs.declared.Rest.{Rest}
 use Rattle.device_rules.specs.Refusals.{imageFits}
-use Rattle.words.specs.Words.{partOf, setsIn}
+use Rattle.words.specs.Words.{partOf, setsIn, statusWord, lineWord}
 use Rattle.words_bus.specs.Packed.{stateIn, pointerWord, busWord, choiceWord, Packed}
 
 -- an image of part c, judged as an image; the words are its packing then, or as they were
@@ -19,4 +19,4 @@ pub record Packs (c : ℕ) (image : State) (fits : Bool) (w w' : List ℕ) : Typ
 
 -- the state beside the register file, in bytes where the image has bytes
 abbrev pub restIn : List ℕ → Rest
-restIn w = record { sets = setsIn w; pointer = getD w pointerWord 0 % 256; bus = getD w busWord 0 % 256; choice = getD w choiceWord 0 % 256 }
+restIn w = record { sets = setsIn w; pointer = getD w pointerWord 0 % 256; bus = getD w busWord 0 % 256; choice = getD w choiceWord 0 % 256; status = getD w statusWord 0; line = getD w lineWord 0 % 256 }

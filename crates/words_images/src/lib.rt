@@ -5,6 +5,7 @@ ghost use Prim.Native.Nat.{ℕ, _<_};
 ghost use lib.ListN.{length, getD};
 ghost use Rattle.map.specs.Map.{fileFits};
 ghost use Rattle.registers.specs.Registers.{core};
+ghost use Rattle.registers.specs.Interrupt.{interrupt};
 ghost use Rattle.device_rules.specs.Device.{state};
 ghost use Rattle.words.specs.Words.{partOf, fileOf, Fit};
 ghost use Rattle.words_images.specs.Images.{Packs, restIn};
@@ -12,8 +13,10 @@ use device_rules::Rest;
 use pins::Sets;
 use words::BUS;
 use words::CHOICE;
+use words::LINE;
 use words::PART;
 use words::POINTER;
+use words::STATUS;
 
 // A file has 128 entries.
 fn counted(file: &[u8; 128]) -> usize
@@ -76,8 +79,10 @@ pub fn pack(
     pointer: u64,
     bus: u64,
     choice: u64,
+    status: u64,
+    line: u64,
 ) -> bool
-    ensures { λ fits. ⌜ Packs part (state (core (now (file .entry)) sets) pointer bus choice) fits (now (words .entry)) (now (words .exit)) ⌝ }
+    ensures { λ fits. ⌜ Packs part (state (core (now (file .entry)) sets) (interrupt status line) pointer bus choice) fits (now (words .entry)) (now (words .exit)) ⌝ }
 {
     let mut fresh = [0u64; 28];
     from_file(&mut fresh, part, file);
@@ -85,6 +90,8 @@ pub fn pack(
     fresh[POINTER] = pointer;
     fresh[BUS] = bus;
     fresh[CHOICE] = choice;
+    fresh[STATUS] = status;
+    fresh[LINE] = line;
     fresh[PART] = part;
     if !stand_for(&fresh, part, file) {
         return false;
@@ -106,10 +113,14 @@ pub fn unpack(words: &[u64; 28], file: &mut [u8; 128]) -> Rest
     let pointer = (words[POINTER] % 256) as u8;
     let bus = (words[BUS] % 256) as u8;
     let choice = (words[CHOICE] % 256) as u8;
+    let status = words[STATUS];
+    let line = (words[LINE] % 256) as u8;
     Rest {
         sets,
         pointer,
         bus,
         choice,
+        status,
+        line,
     }
 }

@@ -4,12 +4,13 @@ use mathlib.Core.Bool.{Bool, true, false, cond, not, _&&_, _||_}
 use mathlib.Core.List.{List}
 use Prim.Native.Nat.{ℕ, zero, suc, _+_, _-_, _*_, _/_, _%_, _^_, _<_}
 use native.Mathlib.Omega.{arith}
-use borrow.Author.Tests.{eqb-true, eqb-false, ne-eqb, ltb-true, lt-ltb, le-ltb}
+use borrow.Author.Tests.{eqb-true, eqb-false, ne-eqb, ltb-true, ltb-false, lt-ltb, le-ltb}
 use lib.Bits.{bitAnd, bitOr}
 use lib.Dec.{eqb, ltb}
 use Rattle.bits.proofs.Decide.{each, eachBool, clash}
 use Rattle.map.specs.Map.{Part, Kind, part24, part34, kindAt, code, stored, reserved, next, successor, roomAt}
 use Rattle.map.specs.Map.Kind.{Reserved, Input, Status, InputStatus, Configuration, Latch, Mask, PortKind, Edge, Clear, Output, Polarity, PinKind, Stored}
+use Rattle.registers.specs.Interrupt.{rings}
 use Rattle.words.specs.Words.{partOf, slotAt, digitAt, paired}
 use Rattle.words.proofs.Moving.{still}
 use Rattle.words.proofs.Sound.{sound, single, pick, code-small, word-is}
@@ -220,6 +221,24 @@ module _ (part n r : ℕ) (hn : n < 128) (er : r ≡ ruleAt (partOf part) n) whe
       go false q =
           let over : 9 < r = above 6 r (above 3 r h z4 z5 z6) (eqb-false r 7 q) z8 z9 in
           still-by r refl ∙ ap₂ (λ (s t : Bool). s || (t || ltb 9 r)) (le-ltb r 4 h) q ∙ lt-ltb 9 r over
+
+  -- a register whose write can change a status bit is one that moves pins
+  rings-not : {b : Bool} → still (kindAt (partOf part) n) ≡ b → rings (kindAt (partOf part) n) ≡ not b
+  rings-not e = twice (rings (kindAt (partOf part) n)) ∙ ap not e
+    where
+      twice : (b : Bool) → b ≡ not (not b)
+      twice true = refl
+      twice false = refl
+
+  pub rings-by : (a : ℕ) → r ≡ a → rings (kindAt (partOf part) n) ≡ not (ltb a 4 || (eqb a 7 || ltb 9 a))
+  rings-by a e = rings-not (still-by a e)
+
+  pub rings-rest : (r ≡ 4 → ⊥) → (r ≡ 5 → ⊥) → (r ≡ 6 → ⊥) → (r ≡ 8 → ⊥) → (r ≡ 9 → ⊥) → rings (kindAt (partOf part) n) ≡ false
+  rings-rest z4 z5 z6 z8 z9 = rings-not (go (ltb r 4) refl)
+    where
+      go : (t : Bool) → ltb r 4 ≡ t → still (kindAt (partOf part) n) ≡ true
+      go true q = still-by r refl ∙ ap (λ (t : Bool). t || (eqb r 7 || ltb 9 r)) q
+      go false q = still-rule (ltb-false r 4 q) z4 z5 z6 z8 z9
 
 -- what is stored is a register's
 pub stored-known : (part n : ℕ) → n < 128 → stored (kindAt (partOf part) n) ≡ true → reserved (partOf part) n ≡ false

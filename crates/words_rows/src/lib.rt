@@ -2,7 +2,8 @@
 ghost use mathlib.Core.Path.{_≡_};
 ghost use mathlib.Core.Bool.{false, true};
 ghost use Prim.Native.Nat.{ℕ, _-_, _^_, _<_};
-ghost use Rattle.map.specs.Map.{part24, part34, reserved, successor, roomAt};
+ghost use Rattle.map.specs.Map.{part24, part34, kindAt, reserved, successor, roomAt};
+ghost use Rattle.registers.specs.Interrupt.{rings};
 ghost use Rattle.words.specs.Words.{partOf, slotAt, digitAt, paired};
 ghost use Rattle.words_rows.specs.Rows.{ruleAt, rowAt, wordIn, Rowed};
 
@@ -458,6 +459,21 @@ pub fn rule(row: u32) -> u32
     ensures { λ r. ⌜ ((part n : ℕ) → n < 128 → row ≡ rowAt (partOf part) n → r ≡ ruleAt (partOf part) n) ⌝ }
 {
     row & 15
+}
+
+// Whether its write can change a status bit.
+pub fn rings(row: u32) -> bool
+    ensures { λ r. ⌜ ((part n : ℕ) → n < 128 → row ≡ rowAt (partOf part) n → r ≡ rings (kindAt (partOf part) n)) ⌝ }
+{
+    let rule = rule(row);
+    match rule {
+        CONFIGURATION => true,
+        LATCH => true,
+        MASK => true,
+        EDGE => true,
+        CLEAR => true,
+        _ => false,
+    }
 }
 
 // Its word, or the first of two.

@@ -1,26 +1,29 @@
 // What can be seen of the words, what a fetch shows and does, and the levels: for either part.
 ghost use mathlib.Core.Path.{_≡_};
-ghost use mathlib.Core.Bool.{false};
+ghost use mathlib.Core.Bool.{false, cond};
 ghost use Prim.Native.Nat.{ℕ, _-_, _*_, _/_, _^_, _<_};
 ghost use lib.Bits.{bitAnd};
 ghost use lib.ListN.{getD};
 ghost use Rattle.bits.specs.Bits.{bit};
-ghost use Rattle.pins.specs.AllPins.{PinsOf, sourceAt};
+ghost use Rattle.pins.specs.AllPins.{PinsOf, sourceAt, asserted};
 ghost use Rattle.pins.specs.OnePin.{inputOf, statusOf};
-ghost use Rattle.map.specs.Map.{reserved};
-ghost use Rattle.registers.specs.Registers.{shown, levelled, fetched, drivenLow, drivenHigh, intAsserted};
-ghost use Rattle.words.specs.Words.{partOf, entryOf, coreIn, wordsAt, pinIn, zipped, Fit, PinLevels, Holds};
+ghost use Rattle.map.specs.Map.{kindAt, reserved};
+ghost use Rattle.registers.specs.Registers.{levelled, fetched, drivenLow, drivenHigh, intAsserted};
+ghost use Rattle.registers.specs.Interrupt.{workedOut, shownKept};
+ghost use Rattle.words.specs.Words.{partOf, entryOf, coreIn, interruptIn, withInterrupt, wordsAt, pinIn, zipped, Fit, PinLevels, Holds};
 ghost use Rattle.words_rows.specs.Rows.{rowAt, wordIn, Known};
 use pins::Sources;
 use words::CONFIGURATION;
 use words::FALLING;
 use words::LATCH;
+use words::LINE;
 use words::MASK;
 use words::OUTPUT;
 use words::PIN_KIND;
 use words::POLARITY;
 use words::PORT_KIND;
 use words::RISING;
+use words::STATUS;
 use words::STRENGTH_HIGH;
 use words::STRENGTH_LOW;
 
@@ -69,11 +72,32 @@ pub fn statuses(words: &[u64; 28]) -> u64
     pins_views::status_bits(v, x)
 }
 
-// Whether INT is asserted.
-pub fn int(words: &[u64; 28]) -> bool
-    ensures { λ r. ⌜ ((part : ℕ) → Fit (partOf part) (now (words .entry)) → r ≡ intAsserted (partOf part) (coreIn (partOf part) (now (words .entry)))) ⌝ }
+// INT's level of a status set: 0 asserted, 1 quiet.
+pub fn line_of(status: u64) -> u64
+    ensures { λ r. ⌜ ((w : ℕ) → status < 2 ^ w → r ≡ cond (asserted w (λ i. bit status i)) 0 1) ⌝ }
 {
-    pins_views::int_asserted(statuses(words))
+    if pins_views::int_asserted(status) {
+        return 0;
+    }
+    1
+}
+
+// The status set and the line become what the rules work out of the other words.
+pub fn keep(words: &mut [u64; 28])
+    ensures { λ r. ⌜ ((part : ℕ) → Fit (partOf part) (now (words .entry))
+        → now (words .exit) ≡ withInterrupt (now (words .entry)) (workedOut (partOf part) (coreIn (partOf part) (now (words .entry))))) ⌝ }
+{
+    let status = statuses(&*words);
+    words[STATUS] = status;
+    words[LINE] = line_of(status);
+}
+
+// Whether INT is asserted: what is kept.
+pub fn int(words: &[u64; 28]) -> bool
+    ensures { λ r. ⌜ ((part : ℕ) → interruptIn (now (words .entry)) ≡ workedOut (partOf part) (coreIn (partOf part) (now (words .entry)))
+        → r ≡ intAsserted (partOf part) (coreIn (partOf part) (now (words .entry)))) ⌝ }
+{
+    words[LINE] == 0
 }
 
 // The pins driven low, of all pins.
@@ -128,18 +152,18 @@ pub fn entry(words: &[u64; 28], row: u32) -> u8
     }
 }
 
-// The byte that a fetch of the register shows.
+// The byte that a fetch of the register shows: interrupt status is what is kept.
 pub fn show(words: &[u64; 28], row: u32) -> u8
     requires { ⌜ wordIn row < 28 ⌝ }
     ensures { λ b. ⌜ ((part n : ℕ) → reserved (partOf part) n ≡ false → row ≡ rowAt (partOf part) n → Fit (partOf part) (now (words .entry))
-        → b ≡ shown (partOf part) (coreIn (partOf part) (now (words .entry))) n) ⌝ }
+        → b ≡ shownKept (partOf part) (kindAt (partOf part) n) (coreIn (partOf part) (now (words .entry))) (interruptIn (now (words .entry))) n) ⌝ }
 {
     let port = words_rows::port(row);
     let rule = words_rows::rule(row);
     match rule {
         words_rows::INPUT => ports::byte_of(inputs(words), port),
         words_rows::INPUT_STATUS => ports::byte_of(inputs(words), port),
-        words_rows::STATUS => ports::byte_of(statuses(words), port),
+        words_rows::STATUS => ports::byte_of(words[STATUS], port),
         _ => entry(words, row),
     }
 }

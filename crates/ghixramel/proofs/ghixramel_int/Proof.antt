@@ -11,7 +11,7 @@ returns c =
     let view = told .before in
     let fits = view .before .before in
     let k = fits .fits2 .ensures .0 (view .before .if1 .taken) in
-    seen _ _ _ _ k (int-told (told .one-if .ensures) (view .int .ensures 0 (k .fit)))
+    seen _ _ _ _ k (int-told (told .one-if .ensures) (view .int .ensures 0 (k .right)))
 
 returns-2 : tie.Need-returns-2
 returns-2 c = unseen _ _ _ (λ k. clash _ (c .before .fits2 .ensures .1 k) (c .if1 .left))

@@ -7,7 +7,7 @@ use Rattle.probe.proofs.main.Statement.{statement}
 use Rattle.probe.proofs.main.Tie as tie
 
 abbrev Inv-loop : tie.InvT-loop
-Inv-loop piece₀ out₀ line₀ turns₀ piece out line turns = (length piece ≡ 16384) × (length out ≡ 65536) × (line .len ≤ 360)
+Inv-loop piece₀ out₀ line₀ turns₀ piece out line turns = (length piece ≡ 16384) × (length out ≡ 65536) × (line .len ≤ 380)
 
 abbrev μ-loop : tie.MeasureT-loop
 μ-loop piece₀ out₀ line₀ turns₀ piece out line turns = turns

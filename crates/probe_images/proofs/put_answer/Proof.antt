@@ -15,7 +15,7 @@ returns c =
     let int = low .before .before in
     let words = int .before .before in
     let choice = words .before .before .before in
-    let x = choice .before .before .before .before .before in
+    let x = choice .before .before .before .before .before .before in
     let e = words-text (words .pack .ensures) _ _ _ (int .int .ensures 0) (low .low .ensures 0 refl) (high .high .ensures 0) (x .args .answer) (x .pre .0) in
     (wrote-as e (p .put-answer .ensures), text-ends _ _ _ _ (p .put-answer .ensures))
 
@@ -23,6 +23,7 @@ pub put-answer-spec : {M : Type 1} → statement M
 put-answer-spec =
     tie.close
     (tie.spec
+    (λ c. search needs)
     (λ c. search needs)
     (λ c. search needs)
     (λ c. search needs)

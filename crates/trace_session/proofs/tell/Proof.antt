@@ -13,9 +13,9 @@ returns c =
     let p = c .before .before in
     let h = p .before .before in
     let s = h .before .before .before .before in
-    let k = s .pre .0 .fit in
+    let packed = s .pre .0 in
     wrote-as
-    (told-line (s .args .answer) (stateIn part24 (s .args .words .now)) _ _ _ (h .before .before .int .ensures 0 k) (h .before .low .ensures 0 refl) (h .high .ensures 0 k))
+    (told-line (s .args .answer) (stateIn part24 (s .args .words .now)) _ _ _ (h .before .before .int .ensures 0 (packed .right)) (h .before .low .ensures 0 refl) (h .high .ensures 0 (packed .fit)))
     (p .put-line .ensures)
 
 pub tell-spec : {M : Type 1} → statement M

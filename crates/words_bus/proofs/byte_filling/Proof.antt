@@ -1,10 +1,14 @@
--- `words_bus::byte_filling`: the register is written by `write_register`, and the pointer steps. Assumes nothing.
+-- `words_bus::byte_filling`: the register is written, and the pointer steps. Assumes nothing.
 use borrow.Author.Needs.{needs}
-use mathlib.Core.Path.{refl, ap}
+use mathlib.Core.Path.{refl, sym, ap}
 use lib.ListN.{getD}
+use Rattle.registers.proofs.Kept.{kept-written}
 use Rattle.device_rules.specs.Device.{State, out, byteIn}
 use Rattle.device_rules.specs.declared.Answer.the-variants.{Ack}
 use Rattle.device_rules.proofs.Stepping.{same-state}
+use Rattle.words.specs.Words.{partOf, coreIn, interruptIn}
+use Rattle.words.proofs.Sound.{mapped}
+use Rattle.words.proofs.Images.{file-length}
 use Rattle.words_rows.proofs.Taken.{known-small, next-of, next-known}
 use Rattle.words_bus.proofs.Left.{holds-pointer}
 use Rattle.words_bus.proofs.byte_filling.Statement.{statement}
@@ -14,11 +18,14 @@ returns : tie.Need-returns
 unfolding byteIn
 returns c =
     let a = c .before .before .before .args in
-    let n = getD (a .words .now) 21 0 in
+    let w = a .words .now in
+    let n = getD w 21 0 in
     λ k packed bus e.
-    let q = next-of (a .row) k n (packed .pointer-known) e (c .successor .ensures k n (known-small (a .row) k n (packed .pointer-known) e) e) in
-    holds-pointer k (a .words .now) _ packed _ (c .before .write-register .ensures k n (packed .pointer-known) e (packed .fit)) Ack (c .successor .result)
-    (rw q (next-known (a .row) k n (packed .pointer-known) e)) (ap (λ (s : State). out Ack s) (same-state refl q bus refl))
+    let hn = known-small (a .row) k n (packed .pointer-known) e in
+    let q = next-of (a .row) k n (packed .pointer-known) e (c .successor .ensures k n hn e) in
+    let kept = kept-written (partOf k) (coreIn (partOf k) w) (interruptIn w) (packed .right) (mapped k) (file-length (partOf k) w) n hn (a .value) in
+    holds-pointer k w _ packed _ (c .before .write .ensures k packed e) Ack (c .successor .result)
+    (rw q (next-known (a .row) k n (packed .pointer-known) e)) (ap (λ (s : State). out Ack s) (same-state refl (sym kept) q bus refl))
 
 pub byte-filling-spec : {M : Type 1} → statement M
 byte-filling-spec =

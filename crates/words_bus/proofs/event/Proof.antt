@@ -1,13 +1,15 @@
 -- `words_bus::event`: each arm is its event's law, judged by its kind and argument. Assumes nothing.
 use borrow.Author.Needs.{needs}
-use mathlib.Core.Path.{refl, ap}
+use mathlib.Core.Path.{refl, sym, ap, _∙_}
 use Prim.Native.Nat.{_^_, _<_}
 use native.Mathlib.Omega.{arith}
 use borrow.Author.Tests.{lt-ltb, le-ltb, lt-leb}
 use lib.Pow.{pow-pos}
-use Rattle.device_rules.specs.Device.{step}
+use Rattle.device_rules.specs.Device.{out, step}
 use Rattle.device_rules.specs.declared.Answer.the-variants.{Nothing, Refused}
-use Rattle.words.specs.Words.{partOf}
+use Rattle.device_rules.proofs.Stepping.{same-state}
+use Rattle.registers.proofs.Kept.{kept-levelled}
+use Rattle.words.specs.Words.{partOf, coreIn, interruptIn}
 use Rattle.words_bus.specs.Packed.{answerAt}
 use Rattle.words_bus.proofs.Left.{left-same, went, holds-left, by-rule}
 use Rattle.words_bus.proofs.Standing.{pin-levels}
@@ -64,8 +66,11 @@ returns-8 c =
     let a = c .before .before .before .before .args in
     λ k packed e er z.
     let small : a .arg < 2 ^ partOf k .width = (let h = c .before .before .if3 .left in omega (arith, e, pow-pos (partOf k .width))) in
-    holds-left k (a .words .now) _ packed _ (c .set-levels .ensures k small (packed .fit)) Nothing
-    (taken k (a .words .now) packed (a .kind) (a .arg) 4 (c .before .before .before .match .keys5) refl (lt-ltb (a .arg) (2 ^ partOf k .width) small))
+    let w = a .words .now in
+    let kept = kept-levelled (partOf k) (coreIn (partOf k) w) (interruptIn w) (packed .right) (a .arg) in
+    holds-left k w _ packed _ (c .set-levels .ensures k packed small) Nothing
+    (ap (out Nothing) (same-state refl (sym kept) refl refl refl)
+    ∙ taken k (a .words .now) packed (a .kind) (a .arg) 4 (c .before .before .before .match .keys5) refl (lt-ltb (a .arg) (2 ^ partOf k .width) small))
 
 returns-9 : tie.Need-returns-9
 unfolding step

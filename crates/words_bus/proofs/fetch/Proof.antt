@@ -1,12 +1,13 @@
 -- `words_bus::fetch`: in Sending what the register shows and does, elsewhere nothing. Assumes nothing.
 use borrow.Author.Needs.{needs}
-use mathlib.Core.Path.{refl, ap}
+use mathlib.Core.Path.{refl, sym, ap}
 use native.Mathlib.Omega.{arith}
 use lib.ListN.{getD}
 use Rattle.device_rules.specs.Device.{fetchIn}
 use Rattle.device_rules.specs.declared.Answer.the-variants.{Byte}
 use Rattle.device_rules.proofs.Stepping.{same-state, same-outcome, sending, stray-fetch}
-use Rattle.words.specs.Words.{partOf}
+use Rattle.registers.proofs.Kept.{kept-fetched}
+use Rattle.words.specs.Words.{partOf, coreIn, interruptIn}
 use Rattle.words_rows.proofs.Taken.{known-small, next-of, next-known, known-inside}
 use Rattle.words_bus.specs.Packed.{stateIn}
 use Rattle.words_bus.proofs.Left.{left-same, holds-bus, holds-pointer}
@@ -29,14 +30,16 @@ returns-2 c =
     let show = settle .before .before in
     let sends = show .before .before in
     let a = sends .before .before .args in
-    let n = getD (a .words .now) 21 0 in
+    let w = a .words .now in
+    let n = getD w 21 0 in
     λ k packed e.
+    let kept = kept-fetched (partOf k) (coreIn (partOf k) w) (interruptIn w) (packed .right) n in
     let q = next-of (a .row) k n (packed .pointer-known) e (next .successor .ensures k n (known-small (a .row) k n (packed .pointer-known) e) e) in
     rw (c .read2 .ensures)
-    (holds-pointer k (a .words .now) _ packed _ (settle .settle .ensures k n (packed .pointer-known) e (packed .fit)) (Byte (show .show .result)) (next .successor .result)
+    (holds-pointer k (a .words .now) _ packed _ (settle .settle .ensures k packed e) (Byte (show .show .result)) (next .successor .result)
     (rw q (next-known (a .row) k n (packed .pointer-known) e))
     (sending (partOf k) (stateIn (partOf k) (a .words .now)) (a .acknowledged) (sends .if1 .left)
-    (same-outcome (ap Byte (show .show .ensures k n (packed .pointer-known) e (packed .fit))) (simp (next .before .if2 .taken) (same-state refl q (sends .if1 .left) refl)))))
+    (same-outcome (ap Byte (show .show .ensures k n (packed .pointer-known) e (packed .fit))) (simp (next .before .if2 .taken) (same-state refl (sym kept) q (sends .if1 .left) refl)))))
 
 returns-3 : tie.Need-returns-3
 unfolding fetchIn
@@ -45,12 +48,14 @@ returns-3 c =
     let show = settle .before .before in
     let sends = show .before .before in
     let a = sends .before .before .args in
-    let n = getD (a .words .now) 21 0 in
+    let w = a .words .now in
+    let n = getD w 21 0 in
     λ k packed e.
+    let kept = kept-fetched (partOf k) (coreIn (partOf k) w) (interruptIn w) (packed .right) n in
     rw (c .read3 .ensures)
-    (holds-bus k (a .words .now) _ packed _ (settle .settle .ensures k n (packed .pointer-known) e (packed .fit)) (Byte (show .show .result)) 7 (omega arith)
+    (holds-bus k (a .words .now) _ packed _ (settle .settle .ensures k packed e) (Byte (show .show .result)) 7 (omega arith)
     (sending (partOf k) (stateIn (partOf k) (a .words .now)) (a .acknowledged) (sends .if1 .left)
-    (same-outcome (ap Byte (show .show .ensures k n (packed .pointer-known) e (packed .fit))) (simp (c .before .if2 .left) refl))))
+    (same-outcome (ap Byte (show .show .ensures k n (packed .pointer-known) e (packed .fit))) (simp (c .before .if2 .left) (same-state refl (sym kept) refl refl refl)))))
 
 show-requires : tie.Need-show-requires
 show-requires c κs = known-inside (known-row _ _ (c .before .before .before .pre))

@@ -1,14 +1,17 @@
--- `words_views::show`: pins by `shown-port`, else what is stored. Assumes nothing.
+-- `words_views::show`: pins by `shown-port`, interrupt status as it is kept, else what is stored. Assumes nothing.
 use borrow.Author.Needs.{needs}
-use mathlib.Core.Path.{refl, sym, _∙_}
+use mathlib.Core.Path.{refl, sym, ap, _∙_}
 use Prim.Native.Nat.{_<_}
 use native.Mathlib.Omega.{arith}
-use Rattle.pins.specs.OnePin.{inputOf, statusOf}
+use borrow.Author.Tests.{ne-eqb}
+use lib.Dec.{eqb}
+use Rattle.pins.specs.OnePin.{inputOf}
+use Rattle.map.specs.Map.{Kind, code}
 use Rattle.map.specs.Map.Kind.{Input, Status, InputStatus}
 use Rattle.registers.specs.Registers.{onePin, shownAs}
 use Rattle.words.specs.Words.{partOf, coreIn}
 use Rattle.words.proofs.Sound.{sound}
-use Rattle.words.proofs.Showing.{input-read, status-read, entry-shown, shown-port}
+use Rattle.words.proofs.Showing.{input-read, entry-shown, shown-port, shown-else, shown-status}
 use Rattle.words_rows.proofs.Taken.{known-small, its-kind, paired-by, low-rule}
 use Rattle.words_views.proofs.show.Statement.{statement}
 use Rattle.words_views.proofs.show.Tie as tie
@@ -25,9 +28,10 @@ returns c =
     let hn : n < 128 = known-small (a .row) part n known e in
     let er = b .rule .ensures part n hn e in
     let one = paired-by part n _ hn er 1 (c .before .before .match .keys1) in
-    shown-port p (sound part) n hn w Input (its-kind part n _ hn er Input (c .before .before .match .keys1)) refl refl _
+    shown-else p (sound part) n hn w (ap (λ (k : Kind). eqb (code k) (code Status)) (its-kind part n _ hn er Input (c .before .before .match .keys1)))
+    (shown-port p (sound part) n hn w Input (its-kind part n _ hn er Input (c .before .before .match .keys1)) refl refl _
     (b .before .port .ensures .0 part n hn e one) (λ i. inputOf (onePin p (coreIn p w) i)) refl _
-    (λ i l. c .before .inputs .ensures i (omega (arith, l, sound part .port-few)) ∙ sym (input-read p (sound part) w i l)) (c .byte-of .ensures)
+    (λ i l. c .before .inputs .ensures i (omega (arith, l, sound part .port-few)) ∙ sym (input-read p (sound part) w i l)) (c .byte-of .ensures))
 
 returns-2 : tie.Need-returns-2
 unfolding shownAs
@@ -41,25 +45,22 @@ returns-2 c =
     let hn : n < 128 = known-small (a .row) part n known e in
     let er = b .rule .ensures part n hn e in
     let one = paired-by part n _ hn er 3 (c .before .before .match .keys2) in
-    shown-port p (sound part) n hn w InputStatus (its-kind part n _ hn er InputStatus (c .before .before .match .keys2)) refl refl _
+    shown-else p (sound part) n hn w (ap (λ (k : Kind). eqb (code k) (code Status)) (its-kind part n _ hn er InputStatus (c .before .before .match .keys2)))
+    (shown-port p (sound part) n hn w InputStatus (its-kind part n _ hn er InputStatus (c .before .before .match .keys2)) refl refl _
     (b .before .port .ensures .0 part n hn e one) (λ i. inputOf (onePin p (coreIn p w) i)) refl _
-    (λ i l. c .before .inputs2 .ensures i (omega (arith, l, sound part .port-few)) ∙ sym (input-read p (sound part) w i l)) (c .byte-of2 .ensures)
+    (λ i l. c .before .inputs2 .ensures i (omega (arith, l, sound part .port-few)) ∙ sym (input-read p (sound part) w i l)) (c .byte-of2 .ensures))
 
 returns-3 : tie.Need-returns-3
-unfolding shownAs
 returns-3 c =
     λ part n known e fit.
     let b = c .before .before .before in
     let start = b .before .before in
     let a = start .args in
-    let p = partOf part in
-    let w = a .words .now in
     let hn : n < 128 = known-small (a .row) part n known e in
     let er = b .rule .ensures part n hn e in
     let one = paired-by part n _ hn er 2 (c .before .before .match .keys3) in
-    shown-port p (sound part) n hn w Status (its-kind part n _ hn er Status (c .before .before .match .keys3)) refl refl _
-    (b .before .port .ensures .0 part n hn e one) (λ i. statusOf (onePin p (coreIn p w) i)) refl _
-    (λ i l. c .before .statuses .ensures .pins i ∙ sym (status-read p (sound part) w i fit l)) (c .byte-of3 .ensures)
+    shown-status (partOf part) (sound part) n hn (a .words .now) (its-kind part n _ hn er Status (c .before .before .match .keys3)) _
+    (b .before .port .ensures .0 part n hn e one) (c .byte-of3 .ensures)
 
 returns-4 : tie.Need-returns-4
 returns-4 c =
@@ -72,9 +73,10 @@ returns-4 c =
     let hn : n < 128 = known-small (a .row) part n known e in
     let er = b .rule .ensures part n hn e in
     let rest = c .before .match .rest in
-    c .entry .ensures part n hn e
+    shown-else p (sound part) n hn w (ne-eqb _ 2 (λ z. rest .1 (low-rule part n _ hn er 2 (omega arith) z)))
+    (c .entry .ensures part n hn e
     ∙ entry-shown p (sound part) n hn w (λ z. rest .0 .0 .1 (low-rule part n _ hn er 1 (omega arith) z)) (λ z. rest .1 (low-rule part n _ hn er 2 (omega arith) z))
-    (λ z. rest .0 .1 (low-rule part n _ hn er 3 (omega arith) z))
+    (λ z. rest .0 .1 (low-rule part n _ hn er 3 (omega arith) z)))
 
 pub show-spec : {M : Type 1} → statement M
 show-spec =
@@ -86,7 +88,7 @@ show-spec =
     (λ c κs. search needs)
     (λ c κs. search needs)
     (λ c κs. search needs)
-    (λ c κs. search needs)
+    (λ c. search needs)
     (λ c κs. search needs)
     (λ c κs. search needs)
     returns

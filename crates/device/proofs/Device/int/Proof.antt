@@ -18,7 +18,7 @@ returns-2 c =
     let e = c .before .before in
     let p = e .before .pack .ensures in
     let fits = not-false _ (e .if1 .left) in
-    ap (line 0) (c .int .ensures 0 (p .packed fits .0 .fit)) ∙ asked p (λ (s : State). line 0 (intAsserted part24 (s .regs))) _ fits
+    ap (line 0) (c .int .ensures 0 (p .packed fits .0 .right)) ∙ asked p (λ (s : State). line 0 (intAsserted part24 (s .regs))) _ fits
 
 pub int-spec : {M : Type 1} → statement M
 int-spec = tie.close (tie.spec (λ c κs. search needs) returns (λ c κs. search needs) returns-2)

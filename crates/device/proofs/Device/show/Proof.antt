@@ -4,8 +4,7 @@ use mathlib.Core.Path.{sym, ap, _∙_}
 use native.Mathlib.Omega.{arith}
 use borrow.Author.Tests.{not-true, not-false, ne-eqb, eq-eqb}
 use Rattle.map.specs.Map.{part24}
-use Rattle.registers.specs.Registers.{shown}
-use Rattle.device_rules.specs.Device.{State}
+use Rattle.device_rules.specs.Device.{State, shownIn}
 use Rattle.words_rows.proofs.Taken.{word-there, row-zero}
 use Rattle.device.specs.Asked.{byte}
 use Rattle.device.proofs.Asking.{its-image, refused, asked, over}
@@ -39,7 +38,7 @@ returns-4 c =
     let x = e .before .before .before .args .n in
     let known = sym (row-zero _ 0 x (search needs) (r .row24 .ensures)) ∙ ne-eqb _ 0 (n .if3 .left) in
     let fits = not-false _ (e .if1 .left) in
-    ap (byte 0) (c .show .ensures 0 x known (r .row24 .ensures) (p .packed fits .0 .fit)) ∙ asked p (λ (s : State). byte 0 (shown part24 (s .regs) x)) (byte 3 0) fits ∙ simp known
+    ap (byte 0) (c .show .ensures 0 x known (r .row24 .ensures) (p .packed fits .0 .fit)) ∙ asked p (λ (s : State). byte 0 (shownIn part24 s x)) (byte 3 0) fits ∙ simp known
 
 pub show-spec : {M : Type 1} → statement M
 show-spec =
