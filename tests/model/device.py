@@ -39,7 +39,10 @@ EVENT_BYTES, MOST_EVENTS = 12, 512
 
 TEN = (0x04, 0x05, 0x06, 0x0C, 0x0D, 0x0E, 0x5C, 0x70, 0x71, 0x72)
 
-Image = namedtuple('Image', 'registers level reference held edge pointer bus choice')
+Image = namedtuple('Image', 'registers level reference held edge pointer bus choice status line')
+
+# INT's level, as the line is kept.
+ASSERTED, QUIET = 0, 1
 
 
 def number_map(groups):
@@ -78,9 +81,10 @@ class Device:
             for i in range(PINS)
         ]
         self.pointer, self.bus, self.choice = image.pointer, image.bus, image.choice
+        self.status, self.line = [bool(image.status >> i & 1) for i in range(PINS)], image.line
         # A device loaded from a broken image answers each step with refusal 3.
         self.broken = self.image_broken(image)
-        # The outputs are worked out again only after something that can move them.
+        # The drives are worked out again only after something that can move them.
         self.changed = True
 
     @classmethod
@@ -88,9 +92,10 @@ class Device:
         """A device at power-on, or refusal 2."""
         if cls.make_too_large(choice, levels):
             return ('refused', 2)
-        device = cls(Image([0] * 128, levels, 0, 0, 0, 0, IDLE, choice))
+        device = cls(Image([0] * 128, levels, 0, 0, 0, 0, IDLE, choice, 0, QUIET))
         device.reset()
-        return device
+        # What the reset made is judged as every image is, and not what it was made from.
+        return cls(device.image())
 
     def image(self):
         return Image(
@@ -99,7 +104,7 @@ class Device:
             pin_set(pin.reference for pin in self.pins),
             pin_set(pin.held for pin in self.pins),
             pin_set(pin.edge for pin in self.pins),
-            self.pointer, self.bus, self.choice)
+            self.pointer, self.bus, self.choice, pin_set(self.status), self.line)
 
     # Refusals.
 
@@ -109,13 +114,15 @@ class Device:
         return choice > 3 or levels >= SET_LIMIT
 
     def image_broken(self, image):
-        """Refusal 3: any one of the seven faults."""
+        """Refusal 3: any one of the nine faults."""
         return (self.pointer_broken(image.pointer)
                 or self.bus_broken(image.bus)
                 or self.choice_broken(image.choice)
                 or self.pin_sets_broken(image)
                 or self.port_kind_broken(image.registers[PORT_KIND])
-                or any(self.entry_broken(n, image.registers[n]) for n in range(128)))
+                or any(self.entry_broken(n, image.registers[n]) for n in range(128))
+                or self.status_broken(image.status)
+                or self.line_broken(image.line))
 
     def pointer_broken(self, pointer):
         """A pointer over 7Fh or at a reserved number."""
@@ -141,6 +148,14 @@ class Device:
         """A nonzero entry where nothing is stored."""
         group = self.map[number]
         return value != 0 and (group is None or not group.stored)
+
+    def status_broken(self, status):
+        """A status set other than the one that pins and registers give."""
+        return status != pin_set(self.status_bits())
+
+    def line_broken(self, line):
+        """A line other than the one that those status bits give."""
+        return line != self.line_by(self.status_bits())
 
     def refusal(self, kind, arg):
         """The image first, then the kind, then the argument; None if the step is taken."""
@@ -323,9 +338,7 @@ class Device:
         if self.bus != SENDING:
             return self.stray_fetch()
         value = self.byte_at(self.pointer)
-        for i in self.settled_by_fetch(self.pointer, acknowledged):
-            self.settle(i)
-            self.changed = True
+        self.settle_fetched(self.settled_by_fetch(self.pointer, acknowledged))
         self.after_fetch(acknowledged)
         return value
 
@@ -339,6 +352,12 @@ class Device:
             return self.pins_of(number)
         return ()
 
+    def settle_fetched(self, pins):
+        """Settled pins have no status bit, and that is kept."""
+        for i in pins:
+            self.settle(i)
+        self.keep('fetch', pins)
+
     def after_fetch(self, acknowledged):
         """Acknowledged, the pointer steps; not acknowledged, the master has ended the read."""
         if acknowledged:
@@ -347,7 +366,7 @@ class Device:
             self.bus = DEAF
 
     def levels(self, new):
-        """Each pin's marks are judged by its old level, then it takes the new one."""
+        """Each pin's marks are judged by its old level, then it takes the new one; any status bit may be another."""
         for i, level in enumerate(new):
             pin = self.pins[i]
             if self.level_sets_held(i, level):
@@ -355,7 +374,7 @@ class Device:
             if self.level_sets_edge(i, level):
                 pin.edge = True
             self.take_level(i, level)
-        self.changed = True
+        self.keep('levels', range(PINS))
 
     def level_sets_held(self, i, new):
         """A latched input that leaves its reference is held."""
@@ -387,6 +406,7 @@ class Device:
         self.bus = self.reset_bus()
         for i in range(PINS):
             self.reset_pin(i)
+        self.keep('reset', range(PINS))
         self.changed = True
 
     def reset_registers(self):
@@ -434,14 +454,15 @@ class Device:
     # Writes.
 
     def write(self, number, value):
-        """The pins follow the rule of the group, then the value is stored."""
-        name = self.map[number].name
+        """The pins follow the rule of the group, then the value is stored, and their status bits with it."""
+        name, pins = self.map[number].name, ()
         if name == 'interrupt edge':
-            first = 4 * (number - EDGE)
-            for j in range(4):
-                self.field_written(first + j, value >> 2 * j & 3)
+            pins = range(4 * (number - EDGE), 4 * (number - EDGE) + 4)
+            for j, i in enumerate(pins):
+                self.field_written(i, value >> 2 * j & 3)
         elif name in ('interrupt clear', 'interrupt mask', 'input latch', 'configuration'):
-            for j, i in enumerate(self.pins_of(number)):
+            pins = self.pins_of(number)
+            for j, i in enumerate(pins):
                 old, new = self.registers[number] >> j & 1, value >> j & 1
                 if name == 'interrupt clear':
                     self.clear_written(i, new)
@@ -452,6 +473,7 @@ class Device:
                 else:
                     self.configuration_written(i, old, new)
         self.store(number, value)
+        self.keep(name, pins)
 
     def store(self, number, value):
         """A register without a stored value takes the write and keeps nothing."""
@@ -498,6 +520,21 @@ class Device:
         elif not old:
             self.settle(i)
 
+    # What is kept: the status set and the line.
+
+    def keep(self, operation, pins):
+        """After an operation that can change them, on these pins: their status bits, then the line."""
+        for i in pins:
+            self.keep_status(operation, i)
+        if pins:
+            self.keep_line(operation)
+
+    def keep_status(self, operation, i):
+        self.status[i] = self.status_bit(i)
+
+    def keep_line(self, operation):
+        self.line = self.line_by(self.status)
+
     # What is seen of a pin.
 
     def open_drain(self, i):
@@ -540,19 +577,23 @@ class Device:
         """Only an unmasked input can ask for attention."""
         return self.is_input(i) and not self.masked(i) and self.pending(i)
 
-    def asserted(self):
+    def status_bits(self):
+        """All of them as the rules work them out, whatever is kept."""
+        return [self.status_bit(i) for i in range(PINS)]
+
+    def line_by(self, status):
         """INT is asserted exactly if some status bit is 1."""
-        return any(self.status_bit(i) for i in range(PINS))
+        return ASSERTED if any(status) else QUIET
 
     def byte_at(self, number):
-        """The byte a fetch shows: three groups are formed from the pins, the rest is the file."""
+        """The byte a fetch shows: two groups are formed from the pins, the status is kept, the rest is the file."""
         name = self.map[number].name
         if name == 'input port':
             return pin_set(self.input_bit(i) for i in self.pins_of(number))
         if name == 'input status':
             return pin_set(self.input_status_bit(i) for i in self.pins_of(number))
         if name == 'interrupt status':
-            return pin_set(self.status_bit(i) for i in self.pins_of(number))
+            return pin_set(self.status[i] for i in self.pins_of(number))
         return self.registers[number]
 
     # What a host is told when it asks, ('refused', n) where it is refused; nothing changes.
@@ -593,14 +634,18 @@ class Device:
         return self.byte_at(number) if refusal is None else ('refused', refusal)
 
     def outputs(self):
-        """INT (1 quiet, 0 asserted), the pins driven low, the pins driven high."""
+        """INT's level, the pins driven low, the pins driven high."""
         if self.changed:
             drives = self.drives()
-            self.shown = (0 if self.asserted() else 1,
-                          pin_set(drive == 'low' for drive in drives),
-                          pin_set(drive == 'high' for drive in drives))
+            self.driven = (pin_set(drive == 'low' for drive in drives), pin_set(drive == 'high' for drive in drives))
             self.changed = False
-        return self.shown
+        return (self.line,) + self.driven
+
+
+def kept_image(image):
+    """The image with the status set and the line that its pins and registers give."""
+    device = Device(image)
+    return image._replace(status=pin_set(device.status_bits()), line=device.line_by(device.status_bits()))
 
 
 def settings_image(setting, rest):
@@ -608,7 +653,7 @@ def settings_image(setting, rest):
     registers = list(rest.registers)
     for number, value in zip(TEN, setting):
         registers[number] = value
-    return rest._replace(registers=tuple(registers))
+    return kept_image(rest._replace(registers=tuple(registers)))
 
 
 @lru_cache(maxsize=16)

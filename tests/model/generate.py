@@ -1,7 +1,7 @@
 """Seeded generators: trace logs, probe lines, view lines, burst lines and the planner's starts and goals."""
 
-from device import (BYTE, CALL, CHOSEN, EVENT_BYTES, FETCH, FILLING, GROUPS, LEVELS, MOST_EVENTS, OPENED, PINS, SENDING,
-                    SET_LIMIT, TEN, Device, Image, power_on)
+from device import (ASSERTED, BYTE, CALL, CHOSEN, EVENT_BYTES, FETCH, FILLING, GROUPS, LEVELS, MOST_EVENTS, OPENED, PINS,
+                    QUIET, SENDING, SET_LIMIT, TEN, Device, Image, kept_image, power_on)
 from probe import WIDTHS, image_fields
 
 RESERVED = [n for n in range(128) if Device.map[n] is None]
@@ -106,7 +106,7 @@ class Log:
             if group.name == 'interrupt edge':
                 if pin // 4 == number - group.first:
                     place = 2 * (pin % 4)
-                    base = base & ~(3 << place) | self.rng.randrange(4) << place
+                    base = base & ~(3 << place) | self.rng.choice((0, 0, 1, 2, 3)) << place
             elif pin // 8 == number - group.first:
                 bit = self.rng.random() < (0.25 if group.name == 'interrupt mask' else 0.5)
                 base = base & ~(1 << pin % 8) | bit << pin % 8
@@ -149,6 +149,13 @@ class Log:
         if rng.random() < 0.2:
             self.event('stop')
 
+    def look(self, group):
+        """A fetch from the register of the group that holds a pin dwelt on."""
+        self.start(0)
+        self.event('byte\t%02x' % self.register(group))
+        self.start(1)
+        self.event('fetch\t%d' % self.rng.randrange(2))
+
     def hide_and_show(self):
         """A pin moves and one of its registers is written twice: what was hidden must not come back."""
         rng = self.rng
@@ -159,13 +166,12 @@ class Log:
             self.start(0)
             self.event('byte\t%02x' % number)
             self.event('byte\t%02x' % self.value(number))
+            if rng.random() < 0.4:
+                self.look(NAMED['interrupt status'])
             if rng.random() < 0.3:
                 self.levels()
         if rng.random() < 0.3:
-            self.start(0)
-            self.event('byte\t%02x' % self.register(weighted_group(rng, MARK_READS)))
-            self.start(1)
-            self.event('fetch\t%d' % rng.randrange(2))
+            self.look(weighted_group(rng, MARK_READS))
 
     def read_back(self):
         """Any register written and read again, perhaps with a reset between."""
@@ -254,15 +260,17 @@ class Log:
                 self.event('byte\t%02x' % self.value(0x60 + pin // 4))
 
     def go_on(self, length, weights):
-        """Acts by chance until the log has so many lines."""
+        """Acts by chance until the log has so many lines; what an act left in the status is looked at now and then."""
         acts = (self.write, self.hide_and_show, self.read, self.levels, self.read_back, self.general_call, self.stray,
                 self.other_address, self.garbage, self.hard_reset, self.device)
         while len(self.lines) < length:
             self.rng.choices(acts, weights)[0]()
+            if self.rng.random() < 0.3:
+                self.look(NAMED['interrupt status'])
 
 
 def trace_log(rng, alone=False):
-    """A log of some 50 to 250 lines; alone, it may begin before a device, be empty, or lack its last newline."""
+    """A log of some 60 to 300 lines; alone, it may begin before a device, be empty, or lack its last newline."""
     log = Log(rng)
     if alone:
         if rng.random() < 0.1:
@@ -276,7 +284,7 @@ def trace_log(rng, alone=False):
     log.device()
     if rng.random() < 0.8:
         log.setting_up()
-    length = rng.choice((50, 150, 200, 240))
+    length = rng.choice((60, 180, 240, 290))
     log.go_on(length, log.weights)
     end = '' if alone and rng.random() < 0.6 else '\n'
     return ('\n'.join(log.lines) + end).encode('latin-1')
@@ -342,9 +350,9 @@ def over(rng, limit, top):
 
 
 def broken_image(rng, image):
-    """The image with one of refusal 3's faults."""
+    """The image with one of refusal 3's faults, and no other: status and line fit the rest, or only they do not."""
     registers = list(image.registers)
-    way = rng.randrange(8)
+    way = rng.randrange(13)
     if way == 0:
         return image._replace(pointer=rng.choice(RESERVED))
     if way == 1:
@@ -355,21 +363,38 @@ def broken_image(rng, image):
         return image._replace(choice=over(rng, 4, 256))
     if way == 4:
         name = rng.choice(('level', 'reference', 'held', 'edge'))
-        return image._replace(**{name: over(rng, SET_LIMIT, 1 << 64)})
+        return kept_image(image._replace(**{name: over(rng, SET_LIMIT, 1 << 64)}))
     if way == 5:
         registers[0x5C] = rng.choice((8, registers[0x5C] | 8, 255, rng.randrange(8, 256)))
     elif way == 6:
         registers[rng.choice(UNSTORED)] = rng.choice((1, 0x80, rng.randrange(1, 256)))
-    else:
+    elif way == 7:
         registers[rng.choice((0x00, 0x03, 0x5D, 0x5A, 0x68, 0x6E, 0x73, 0x77, 0x7F))] = rng.randrange(1, 256)
+    else:
+        return wrongly_kept(rng, image, way - 8)
     return image._replace(registers=tuple(registers))
+
+
+def wrongly_kept(rng, image, way):
+    """The image with a status bit too many or too few, one past the pins, another line, or both as of another moment."""
+    flipped = image.status ^ 1 << rng.randrange(PINS)
+    if way == 0:
+        return image._replace(status=flipped)
+    if way == 1:
+        return image._replace(status=image.status | 1 << rng.choice((PINS, 63, rng.randrange(PINS, 64))))
+    if way == 2:
+        return image._replace(line=QUIET if image.line == ASSERTED else ASSERTED)
+    if way == 3:
+        return image._replace(line=over(rng, 2, 256))
+    status = 0 if image.status else flipped
+    return image._replace(status=status, line=ASSERTED if status else QUIET)
 
 
 def spoiled_line(rng, line):
     """The line made unreadable."""
     fields = line.split(b'\t')
     place = rng.randrange(len(fields))
-    way = rng.randrange(9)
+    way = rng.randrange(10)
     if way == 0:
         del fields[place]
     elif way == 1:
@@ -385,15 +410,18 @@ def spoiled_line(rng, line):
     elif way == 6:
         fields[-1] += b'\r'
     elif way == 7:
-        return rng.choice((b'', b'\t', b'start', b'0' * 359, b'0' * 5000))
+        return rng.choice((b'', b'\t', b'start', b'0' * len(line), b'0' * 5000))
+    elif way == 8:
+        # There is one form: an image without status and line is none.
+        del fields[8:10]
     else:
         fields[place] = b''
     return b'\t'.join(fields)
 
 
 def sound_image(rng, focus, pointer, bus):
-    return Image(tuple(random_registers(rng)), *(random_marks(rng, focus) for _ in range(4)),
-                 pointer, bus, rng.randrange(4))
+    return kept_image(Image(tuple(random_registers(rng)), *(random_marks(rng, focus) for _ in range(4)),
+                            pointer, bus, rng.randrange(4), 0, QUIET))
 
 
 def image_line(rng):
@@ -417,7 +445,7 @@ def image_line(rng):
         kind = rng.choice((BYTE, FETCH, LEVELS))
         limit = {BYTE: 256, FETCH: 2, LEVELS: SET_LIMIT}[kind]
         arg = rng.choice((limit - 1, over(rng, limit, 1 << 64)))
-    line = ('%s\t%0*x\t%0*x' % (image_fields(image), WIDTHS[8], kind, WIDTHS[9], arg)).encode()
+    line = ('%s\t%0*x\t%0*x' % (image_fields(image), WIDTHS[-2], kind, WIDTHS[-1], arg)).encode()
     if rng.random() < 0.04:
         line = spoiled_line(rng, line)
     return line + b'\n'

@@ -4,7 +4,7 @@ import random
 import re
 from functools import lru_cache
 
-from device import BYTE, PINS, PORT_KIND, START, TEN, Device, Image, power_on, settings_drives, settings_image
+from device import BYTE, PINS, PORT_KIND, QUIET, START, TEN, Device, Image, power_on, settings_drives, settings_image
 
 MOST_WRITES = 16
 RESTS = 3
@@ -35,7 +35,7 @@ def drive(output, configuration, kind, port_bit):
     """The drive of a pin by its four bits, asked of the model device."""
     registers = power_on(Device.map)
     registers[0x04], registers[0x0C], registers[0x70], registers[0x5C] = output, configuration, kind, port_bit
-    return Device(Image(registers, 0, 0, 0, 0, 0, 0, 0)).drive(0)
+    return Device(Image(registers, 0, 0, 0, 0, 0, 0, 0, 0, QUIET)).drive(0)
 
 
 def move_allowed(start, goal, before, after):
@@ -102,11 +102,12 @@ def exists(start, goal):
 
 
 def random_rest(rng):
-    """A random well-formed image, its bus Idle so that the writes can be sent."""
+    """A random image, its bus Idle so that the writes can be sent; well formed once it is at a setting."""
     registers = [rng.randrange(256) if group and group.stored else 0 for group in Device.map]
     registers[PORT_KIND] &= 7
     pointer = rng.choice([n for n in range(128) if Device.map[n]])
-    return Image(tuple(registers), *(rng.randrange(1 << PINS) for _ in range(4)), pointer, 0, rng.randrange(4))
+    marks = (rng.randrange(1 << PINS) for _ in range(4))
+    return Image(tuple(registers), *marks, pointer, 0, rng.randrange(4), 0, QUIET)
 
 
 def send(device, register, value):
@@ -120,7 +121,7 @@ def judge_run(start, goal, writes, rest):
     device = Device(settings_image(start, rest))
     first, last = settings_drives(start), settings_drives(goal)
     always_inputs = [i for i in range(PINS) if pin_bits(start, i)[1] and pin_bits(goal, i)[1]]
-    status = {i: device.status_bit(i) for i in always_inputs}
+    status = {i: device.status[i] for i in always_inputs}
     changes = [0] * PINS
     before = first
     for count, (register, value) in enumerate(writes, 1):
@@ -142,7 +143,7 @@ def judge_run(start, goal, writes, rest):
         for i in always_inputs:
             if not device.is_input(i):
                 return '%s: pin %d, an input at both ends, is an output' % (where, i)
-            if device.status_bit(i) != status[i]:
+            if device.status[i] != status[i]:
                 return '%s: the status bit of pin %d moves' % (where, i)
         before = now
     if bytes(device.registers[number] for number in TEN) != goal:

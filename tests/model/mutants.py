@@ -1,7 +1,7 @@
 """One-rule mutants of the model, and which only images, views or bursts can show; try_mutants.py tries them."""
 
-from device import (ARMED, BYTE, CALL, CHOSEN, DEAF, EVENT_BYTES, FETCH, FILLING, GROUPS, IDLE, LEVELS, MOST_EVENTS,
-                    OPENED, PINS, PORT_KIND, SENDING, SET_LIMIT, Device, number_map)
+from device import (ARMED, ASSERTED, BYTE, CALL, CHOSEN, DEAF, EVENT_BYTES, FETCH, FILLING, GROUPS, IDLE, LEVELS,
+                    MOST_EVENTS, OPENED, PINS, PORT_KIND, QUIET, SENDING, SET_LIMIT, Device, number_map, pin_set)
 
 # Name of a mutant that no output can tell from the model, and why.
 SURVIVORS = {}
@@ -21,6 +21,8 @@ ONLY_BY_IMAGES = frozenset('''
     ReservedPointerPasses LargePointerPasses BusStateEightPasses BusStateSevenFails ChoiceFourPasses
     PortKindEightPasses PortKindSevenFails ReservedEntryPasses ReadOnlyEntryPasses ClearEntryPasses LastEntryUnchecked
     HeldWithoutLatchFails LargeLevelPasses LargeReferencePasses LargeHeldPasses LargeEdgePasses
+    LineKeptAsAsserted StatusUnjudged LineUnjudged StatusAndLineUnjudged StatusJudgedWithoutMask LineJudgedByKeptStatus
+    StatusJudgedAsSomeOrNone MissingStatusBitPasses ExtraStatusBitPasses StatusPastThePinsPasses LineJudgedByLowestBit
 '''.split())
 
 # The mutants of what a host is told when it asks, and of when it is refused: no event asks.
@@ -39,7 +41,7 @@ ONLY_BY_BURSTS = frozenset('''
     EventWordsHighestFirst EventOfEightBytes ArgumentLowHalfOnly
     Burst513Passes Burst512Fails BurstGivenOver512Fails BurstRoomOneShortPasses BurstRoomForAllGiven
     BurstPartOfEventPasses BurstLessGivenPasses BurstEightAfterThree BurstEightTellsNone BurstOfNoneOnBrokenFails
-    BurstOfNoneTellsNoCount
+    BurstOfNoneTellsNoCount BurstLeavesStatus BurstLeavesLine
 '''.split())
 
 MUTANTS = []
@@ -242,20 +244,164 @@ class StatusOnOutputs(Device):
 
 @mutant
 class IntOfFirstPort(Device):
-    def asserted(self):
-        return any(self.status_bit(i) for i in range(8))
+    def line_by(self, status):
+        return super().line_by(status[:8])
 
 
 @mutant
 class IntOfAllButLastPin(Device):
-    def asserted(self):
-        return any(self.status_bit(i) for i in range(PINS - 1))
+    def line_by(self, status):
+        return super().line_by(status[:-1])
 
 
 @mutant
 class IntNeedsTwoPins(Device):
-    def asserted(self):
-        return sum(self.status_bit(i) for i in range(PINS)) > 1
+    def line_by(self, status):
+        return ASSERTED if sum(status) > 1 else QUIET
+
+
+# What is kept.
+
+def stale_mutants(name, stale):
+    """After one operation the status bits are left as they were, the line being right; or the line alone is."""
+    def keep_status(self, operation, i):
+        if operation != stale:
+            Device.keep_status(self, operation, i)
+
+    def keep_right_line(self, operation):
+        self.line = self.line_by(self.status_bits() if operation == stale else self.status)
+
+    def keep_line(self, operation):
+        if operation != stale:
+            Device.keep_line(self, operation)
+
+    mutant(type('StatusStaleAfter' + name, (Device,), {'keep_status': keep_status, 'keep_line': keep_right_line}))
+    mutant(type('LineStaleAfter' + name, (Device,), {'keep_line': keep_line}))
+
+
+for stale_name, stale_operation in (
+        ('Clear', 'interrupt clear'), ('Mask', 'interrupt mask'), ('Edge', 'interrupt edge'), ('Latch', 'input latch'),
+        ('Configuration', 'configuration'), ('Levels', 'levels'), ('Fetch', 'fetch'), ('Reset', 'reset')):
+    stale_mutants(stale_name, stale_operation)
+
+
+@mutant
+class LineUpsideDown(Device):
+    def line_by(self, status):
+        return QUIET if any(status) else ASSERTED
+
+
+@mutant
+class LineKeptAsAsserted(Device):
+    """INT is told right, but in an image 1 is asserted."""
+
+    def __init__(self, image):
+        super().__init__(image._replace(line=1 - image.line))
+
+    def image(self):
+        return super().image()._replace(line=1 - self.line)
+
+
+@mutant
+class StatusOfOutputKept(Device):
+    def keep_status(self, operation, i):
+        if self.is_input(i):
+            super().keep_status(operation, i)
+
+
+@mutant
+class StatusKeptWithoutMask(Device):
+    def keep_status(self, operation, i):
+        self.status[i] = self.is_input(i) and self.pending(i)
+
+
+@mutant
+class StatusBitsOnlySet(Device):
+    def keep_status(self, operation, i):
+        self.status[i] = self.status[i] or self.status_bit(i)
+
+
+@mutant
+class LineOfTouchedPinsOnly(Device):
+    def keep(self, operation, pins):
+        super().keep(operation, pins)
+        if pins:
+            self.line = self.line_by([self.status[i] for i in pins])
+
+
+@mutant
+class LineOnlyAsserts(Device):
+    def keep_line(self, operation):
+        if any(self.status) or operation == 'reset':
+            super().keep_line(operation)
+
+
+@mutant
+class StatusUnjudged(Device):
+    def status_broken(self, status):
+        return False
+
+
+@mutant
+class LineUnjudged(Device):
+    def line_broken(self, line):
+        return False
+
+
+@mutant
+class StatusAndLineUnjudged(Device):
+    def status_broken(self, status):
+        return False
+
+    def line_broken(self, line):
+        return False
+
+
+@mutant
+class StatusJudgedWithoutMask(Device):
+    def status_broken(self, status):
+        return status != pin_set(self.is_input(i) and self.pending(i) for i in range(PINS))
+
+
+@mutant
+class LineJudgedByKeptStatus(Device):
+    """The two fit each other, and the status is not judged."""
+
+    def status_broken(self, status):
+        return False
+
+    def line_broken(self, line):
+        return line != self.line_by(self.status)
+
+
+@mutant
+class StatusJudgedAsSomeOrNone(Device):
+    def status_broken(self, status):
+        return (status != 0) != any(self.status_bits())
+
+
+@mutant
+class MissingStatusBitPasses(Device):
+    def status_broken(self, status):
+        return status & ~pin_set(self.status_bits()) != 0
+
+
+@mutant
+class ExtraStatusBitPasses(Device):
+    def status_broken(self, status):
+        return pin_set(self.status_bits()) & ~status != 0
+
+
+@mutant
+class StatusPastThePinsPasses(Device):
+    def status_broken(self, status):
+        return super().status_broken(status % SET_LIMIT)
+
+
+@mutant
+class LineJudgedByLowestBit(Device):
+    def line_broken(self, line):
+        return super().line_broken(line & 1)
 
 
 # Levels.
@@ -1483,8 +1629,7 @@ class ByteAskedSettles(Device):
     def told_byte(self, number):
         told = super().told_byte(number)
         if not isinstance(told, tuple):
-            for i in self.settled_by_fetch(number, False):
-                self.settle(i)
+            self.settle_fetched(self.settled_by_fetch(number, False))
         return told
 
 
@@ -1684,3 +1829,21 @@ class BurstOfNoneTellsNoCount(Device):
     def burst(self, data, asked, room):
         number, done, answers = super().burst(data, asked, room)
         return number, done if asked else None, answers
+
+
+@mutant
+class BurstLeavesStatus(Device):
+    def burst(self, data, asked, room):
+        before = self.status[:]
+        told = super().burst(data, asked, room)
+        self.status = before
+        return told
+
+
+@mutant
+class BurstLeavesLine(Device):
+    def burst(self, data, asked, room):
+        before = self.line
+        told = super().burst(data, asked, room)
+        self.line = before
+        return told

@@ -6,8 +6,8 @@ import sys
 from device import Device, Image
 from trace import UNREADABLE, answer_line, split_lines
 
-# Registers, level, reference, held, edge, pointer, bus state, address choice.
-IMAGE_WIDTHS = (256, 16, 16, 16, 16, 2, 2, 2)
+# Registers, level, reference, held, edge, pointer, bus state, address choice, status, line.
+IMAGE_WIDTHS = (256, 16, 16, 16, 16, 2, 2, 2, 16, 2)
 # An image, kind, argument.
 WIDTHS = IMAGE_WIDTHS + (8, 16)
 
@@ -26,7 +26,8 @@ def read_fields(form, line):
         return None
     registers = tuple(bytes.fromhex(found.group(1).decode()))
     numbers = [int(field, 16) for field in found.groups()[1:]]
-    return (Image(registers, *numbers[:7]), *numbers[7:])
+    rest = len(IMAGE_WIDTHS) - 1
+    return (Image(registers, *numbers[:rest]), *numbers[rest:])
 
 
 def read_line(line):
@@ -35,8 +36,8 @@ def read_line(line):
 
 
 def image_fields(image):
-    """The eight fields of an image as text."""
-    numbers = ['%0*x' % (width, number) for width, number in zip(WIDTHS[1:], image[1:])]
+    """The ten fields of an image as text."""
+    numbers = ['%0*x' % (width, number) for width, number in zip(IMAGE_WIDTHS[1:], image[1:])]
     return '\t'.join([bytes(image.registers).hex()] + numbers)
 
 

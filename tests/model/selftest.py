@@ -10,8 +10,8 @@ import judge
 import probe
 import trace
 import views
-from device import (ARMED, BYTE, CALL, DEAF, FETCH, FILLING, GROUPS, IDLE, LEVELS, OPENED, RESET, SENDING, SET_LIMIT,
-                    START, STOP, TEN, Device)
+from device import (ARMED, ASSERTED, BYTE, CALL, DEAF, FETCH, FILLING, GROUPS, IDLE, LEVELS, OPENED, PINS, QUIET, RESET,
+                    SENDING, SET_LIMIT, START, STOP, TEN, Device, kept_image, pin_set)
 
 EXAMPLE_IN = b'device\t2\t000000\nstart\nbyte\t44\nbyte\t54\nbyte\tfe\npins\t000001\n'
 EXAMPLE_OUT = (b'answer\tint\tlow\thigh\n'
@@ -193,6 +193,7 @@ def test_reset():
     image = bench.device.image()
     assert image == Device.make(3, 0x0F0F0F).image() and image.bus == IDLE and image.pointer == 0
     assert (image.held, image.edge, image.reference) == (0, 0, 0x0F0F0F)
+    assert (image.status, image.line) == (0, QUIET)
 
 
 def test_polarity_is_not_an_event():
@@ -237,12 +238,14 @@ def with_entry(image, number, value):
 
 
 def broken_images(sound):
-    """An image broken in every way."""
+    """An image broken in every way, and in no other at the same time."""
     return (sound._replace(pointer=0x03), sound._replace(pointer=0x7F), sound._replace(pointer=0x80),
-            sound._replace(bus=8), sound._replace(choice=4), sound._replace(level=SET_LIMIT),
-            sound._replace(reference=SET_LIMIT), sound._replace(held=SET_LIMIT), sound._replace(edge=SET_LIMIT),
+            sound._replace(bus=8), sound._replace(choice=4),
+            *(kept_image(sound._replace(**{name: SET_LIMIT})) for name in ('level', 'reference', 'held', 'edge')),
             *(with_entry(sound, *entry) for entry in ((0x5C, 8), (0x00, 1), (0x03, 1), (0x58, 1), (0x69, 128),
-                                                      (0x6E, 1), (0x7F, 1))))
+                                                      (0x6E, 1), (0x7F, 1))),
+            *(sound._replace(status=sound.status ^ 1 << i) for i in range(64)),
+            sound._replace(line=1 - sound.line), *(sound._replace(line=line) for line in (2, 3, 0x80, 0xFF)))
 
 
 def test_broken_images():
@@ -253,6 +256,81 @@ def test_broken_images():
     for image in (sound, sound._replace(bus=7), sound._replace(choice=3), with_entry(sound, 0x5C, 7),
                   sound._replace(edge=SET_LIMIT - 1), sound._replace(pointer=0x76)):
         assert Device(image).step(START, 0) == '-'
+
+
+def test_status_and_line_are_judged():
+    """Pins 0 to 2 have left their reference: 0 is unmasked, 1 is masked, 2 an output."""
+    sound = with_entry(with_entry(Device.make(1, 0).image()._replace(level=7), 0x54, 0xFA), 0x0C, 0xFB)
+    for status in range(16):
+        for line in (ASSERTED, QUIET):
+            answer = Device(sound._replace(status=status, line=line)).step(START, 0)
+            assert answer == ('-' if (status, line) == (1, ASSERTED) else ('refused', 3)), (status, line)
+    assert kept_image(sound) == sound._replace(status=1, line=ASSERTED)
+
+
+def want_kept(device, where):
+    """What is kept is what the rules work out of pins and registers."""
+    image = device.image()
+    assert (image.status, image.line) == (pin_set(device.status_bits()), device.line_by(device.status_bits())), where
+
+
+def test_status_and_line_are_kept():
+    """At power-on, after every step from any image that is not broken, and all along a log."""
+    rng = random.Random(9)
+    for _ in range(3000):
+        read = probe.read_line(generate.image_line(rng)[:-1])
+        if read:
+            device = Device(read[0])
+            if not isinstance(device.step(*read[1:]), tuple):
+                want_kept(device, read)
+    for _ in range(10):
+        device = None
+        for kind, argument in filter(None, trace.read_log(generate.trace_log(rng))):
+            made = kind == trace.NEW and Device.make(*argument)
+            if isinstance(made, Device):
+                device = made
+            elif kind != trace.NEW:
+                device.step(kind, argument)
+            want_kept(device, (kind, argument))
+
+
+def test_what_writes_status_and_line():
+    """Each operation that can change them, on one pin that rings or stops to."""
+    def after(kept, *acts):
+        """Writes are pairs, levels plain numbers."""
+        bench = Bench()
+        for act in acts:
+            if isinstance(act, int):
+                bench.pins(act)
+            else:
+                bench.write(*act)
+        image = bench.device.image()
+        assert (image.status, image.line) == kept, acts
+        return bench
+
+    rings, quiet = (0x100, ASSERTED), (0, QUIET)
+    latched, unmasked, up, down = (0x49, 0x01), (0x55, 0xFE), 0x100, 0
+    after(rings, unmasked, up)
+    after(quiet, unmasked, up, down)
+    after(rings, up, unmasked)
+    after(quiet, unmasked, up, (0x55, 0xFF))
+    after(quiet, unmasked, up, (0x0D, 0xFE))
+    after(quiet, unmasked, up, (0x69, 0x01))
+    after(rings, unmasked, up, (0x69, 0xFE))
+    after(quiet, unmasked, up, (0x62, 0x01))
+    after(rings, unmasked, (0x62, 0x01), up, down)
+    after(quiet, unmasked, (0x62, 0x01), up, down, (0x62, 0x00))
+    after(rings, unmasked, latched, up, down)
+    after(quiet, unmasked, latched, up, down, (0x49, 0x00))
+    for event in ((RESET, 0), (FETCH, 0)):
+        bench = after(rings, unmasked, latched, up, down)
+        if event[0] == FETCH:
+            bench.write(0x01)
+            bench.address(1)
+        bench.device.step(*event)
+        assert (bench.device.image().status, bench.device.image().line) == quiet
+    bench = after(rings, unmasked, up)
+    assert (bench.read(0x58), bench.read(0x59), bench.read(0x5A)) == (0, 1, 0) and not bench.quiet()
 
 
 def test_views():
@@ -350,6 +428,10 @@ def test_probe_reader():
     answer = ('-\t1\t000000\t000000\t' + probe.image_fields(after.image())).encode() + b'\n'
     assert probe.run_lines(line) == probe.run_lines(line + b'\n') == answer
     assert probe.run_lines(b'') == b''
+    fields = line.split(b'\t')
+    assert len(line) == 379 and len(fields) == 12 and fields[8:10] == [b'0' * 16, b'01']
+    # There is one form: an image without status and line is none.
+    assert probe.run_lines(b'\t'.join(fields[:8] + fields[10:])) == b'refused\t7\n'
     rng = random.Random(1)
     for _ in range(200):
         assert probe.run_lines(generate.spoiled_line(rng, line) + b'\n') == b'refused\t7\n'
@@ -391,8 +473,8 @@ def test_causes_that_end_a_status_bit():
         before, after = Device(image), Device(image)
         if isinstance(after.step(kind, arg), tuple):
             continue
-        for i in range(24):
-            if before.status_bit(i) and not after.status_bit(i):
+        for i in range(PINS):
+            if before.status[i] and not after.status[i]:
                 assert may_end(before, kind, arg, i), (image, kind, arg, i)
                 ended += 1
     assert ended > 100
@@ -540,11 +622,34 @@ def test_exists_in_one_sentence():
         assert judge.exists(start, goal) == (not hopeless)
 
 
+def faults_of(image):
+    """The names of refusal 3's faults that an image has."""
+    device = Device(image)
+    return frozenset(name for name, broken in (
+        ('pointer', device.pointer_broken(image.pointer)), ('bus', device.bus_broken(image.bus)),
+        ('choice', device.choice_broken(image.choice)), ('pin sets', device.pin_sets_broken(image)),
+        ('5C', device.port_kind_broken(image.registers[0x5C])),
+        ('entry', any(device.entry_broken(n, image.registers[n]) for n in range(128))),
+        ('status', device.status_broken(image.status)), ('line', device.line_broken(image.line))) if broken)
+
+
+def test_broken_images_have_one_fault():
+    """Else a fault that is not looked for hides behind another; status and line are also wrong together."""
+    rng = random.Random(10)
+    found = set()
+    for _ in range(600):
+        sound = generate.sound_image(rng, [0, 9, 23], 0x54, FILLING)
+        assert not faults_of(sound)
+        found.add(faults_of(generate.broken_image(rng, sound)))
+    assert found == {frozenset(names) for names in (
+        ['pointer'], ['bus'], ['choice'], ['pin sets'], ['5C'], ['entry'], ['status'], ['line'], ['status', 'line'])}
+
+
 def test_generators():
     rng = random.Random(5)
     for _ in range(30):
         log = generate.trace_log(rng)
-        assert log.startswith(b'device\t') and log.endswith(b'\n') and 50 <= log.count(b'\n') <= 300
+        assert log.startswith(b'device\t') and log.endswith(b'\n') and 60 <= log.count(b'\n') <= 340
     assert generate.trace_log(random.Random(6)) == generate.trace_log(random.Random(6))
     for _ in range(300):
         assert all(judge.well_formed(end) for end in generate.setting_pair(rng))
