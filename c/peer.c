@@ -122,11 +122,20 @@ static uint32_t status_bits(const struct peer *d)
     return watched & ((by_edge & (uint32_t)d->edge) | (~by_edge & by_level));
 }
 
+/* Status and line are kept by every operation that can change them, so that nobody who asks works them out. */
+static void keep(struct peer *d, uint64_t status)
+{
+    d->status = status;
+    d->line = status == 0;
+}
+
+/* A settled pin has no status bit. */
 static void settle(struct peer *d, uint64_t pins)
 {
     d->edge &= ~pins;
     d->held &= ~pins;
     d->reference = (d->reference & ~pins) | (d->level & pins);
+    keep(d, d->status & ~pins);
 }
 
 OUT_OF_LINE void reset(struct peer *d)
@@ -179,9 +188,13 @@ OUT_OF_LINE void write_register(struct peer *d, uint32_t number, uint32_t value)
         break;
     case CLEAR_RULE:
         settle(d, set);
-        break;
+        return;
+    default:
+        d->registers[number] = (uint8_t)(value & storable[number]);
+        return;
     }
-    d->registers[number] = (uint8_t)(value & storable[number]);
+    d->registers[number] = (uint8_t)value;
+    keep(d, status_bits(d));
 }
 
 /* The byte is formed before an input port register settles its pins. */
@@ -197,7 +210,7 @@ OUT_OF_LINE uint8_t fetch_register(struct peer *d, uint32_t number)
     case INPUT_STATUS_RULE:
         return (uint8_t)(input_bits(d) >> port);
     case STATUS_RULE:
-        return (uint8_t)(status_bits(d) >> port);
+        return (uint8_t)(d->status >> port);
     default:
         return d->registers[number];
     }
@@ -288,6 +301,7 @@ OUT_OF_LINE void take_levels(struct peer *d, uint64_t levels)
     d->held |= inputs & pins_at(d, LATCH) & (levels ^ d->reference);
     d->edge |= inputs & ~(uint64_t)pins_at(d, MASK) & (rose | fell);
     d->level = levels;
+    keep(d, status_bits(d));
 }
 
 #ifndef PEER_TRUSTS_IMAGE
@@ -308,7 +322,7 @@ static int file_broken(const uint8_t registers[128])
 static int image_broken(const struct peer *d)
 {
     return ((d->level | d->reference | d->held | d->edge) > ALL_PINS) | (rules[d->pointer] == RESERVED) | (d->bus > DEAF) |
-           (d->choice > 3) | file_broken(d->registers);
+           (d->choice > 3) | file_broken(d->registers) | (d->status != status_bits(d)) | (d->line != (d->status == 0));
 }
 
 #endif
@@ -359,7 +373,7 @@ uint32_t peer_power_on(struct peer *d, uint32_t choice, uint64_t levels)
     if (choice > 3 || levels > ALL_PINS)
         return BAD_ARGUMENT;
     d->level = levels;
-    d->reference = d->held = d->edge = 0;
+    d->reference = d->held = d->edge = d->status = 0;
     d->choice = (uint8_t)choice;
     reset(d);
     return 0;
@@ -375,5 +389,5 @@ void peer_drives(const struct peer *d, uint64_t drives[2])
 
 int peer_int(const struct peer *d)
 {
-    return status_bits(d) != 0;
+    return d->line == 0;
 }

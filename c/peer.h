@@ -6,8 +6,10 @@
 
 struct peer {
     uint64_t level, reference, held, edge; /* pin sets, pin 0 in the lowest bit */
+    uint64_t status;                       /* the pins whose status bit is 1 */
     uint8_t registers[128];                /* one byte for each command number */
     uint8_t pointer, bus, choice;
+    uint8_t line; /* INT's level: 1 quiet, 0 asserted */
 };
 
 enum { PEER_START, PEER_STOP, PEER_BYTE, PEER_FETCH, PEER_LEVELS, PEER_RESET };

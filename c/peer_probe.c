@@ -1,9 +1,9 @@
-/* One step of the peer on a state image a line: registers, four pin sets, pointer, bus state, address choice, kind and
- * argument, in lowercase hex parted by tabs. Answered as the trace program does, then the image after. */
+/* One step of the peer on a state image a line: registers, four pin sets, pointer, bus state, address choice, status, line,
+ * kind and argument, in lowercase hex parted by tabs. Answered as the trace program does, then the image after. */
 #include "image_text.h"
 #include "peer_text.h"
 
-enum { LINE_BYTES = 359, MOST_PROBE_BYTES = 400 };
+enum { LINE_BYTES = 379, MOST_PROBE_BYTES = 400 };
 
 struct probe {
     struct peer device;
@@ -29,7 +29,15 @@ static const uint8_t *bus_fields(const uint8_t *at, struct peer *device)
     return at;
 }
 
-/* The fields have fixed widths, so a line of the right length with a tab after each of nine fields has no room for more. */
+static const uint8_t *kept_fields(const uint8_t *at, struct peer *device)
+{
+    uint64_t line = 0;
+    at = field(field(at, 16, &device->status), 2, &line);
+    device->line = (uint8_t)line;
+    return at;
+}
+
+/* The fields have fixed widths, so a line of the right length with a tab after each of eleven fields has no room for more. */
 static int read_probe(const uint8_t *line, size_t length, struct probe *probe)
 {
     uint8_t text[LINE_BYTES + 1];
@@ -39,7 +47,8 @@ static int read_probe(const uint8_t *line, size_t length, struct probe *probe)
     memcpy(text, line, LINE_BYTES);
     text[LINE_BYTES] = '\n';
     const uint8_t *at = pins_fields(registers_field(text, probe->device.registers), &probe->device);
-    at = field(bus_fields(at, &probe->device), 8, &kind);
+    at = kept_fields(bus_fields(at, &probe->device), &probe->device);
+    at = field(at, 8, &kind);
     probe->kind = (uint32_t)kind;
     return field(at, 16, &probe->argument) != NULL;
 }
@@ -59,7 +68,8 @@ static uint8_t *put_image(uint8_t *to, const struct peer *device)
     to = put_pins(put_pins(to, device->held), device->edge);
     to = put_hex(put_byte(to, '\t'), device->pointer, 2);
     to = put_hex(put_byte(to, '\t'), device->bus, 2);
-    return put_hex(put_byte(to, '\t'), device->choice, 2);
+    to = put_hex(put_byte(to, '\t'), device->choice, 2);
+    return put_hex(put_byte(put_pins(to, device->status), '\t'), device->line, 2);
 }
 
 static uint8_t *put_step(uint8_t *to, struct probe *probe)

@@ -27,13 +27,16 @@ struct ghixramel {
     uint64_t words[28];
 };
 
-/* What a state holds, to read or to build one. There is no padding here either: equal images are equal bytes. */
+/* What a state holds, to read or to build one. Status and line follow from pins and registers: an image whose status
+ * or line is another than theirs is broken. There is no padding here either: equal images are equal bytes. */
 struct ghixramel_image {
     uint64_t pins[4];       /* pin sets, pin 0 in the lowest bit: level, reference, held, edge */
     uint8_t registers[128]; /* one byte for each command number */
     uint64_t pointer;       /* a command number that is not reserved */
     uint64_t bus;           /* the bus state, as numbered below */
     uint64_t choice;        /* the address choice, 0 to 3 */
+    uint64_t status;        /* the pins whose status bit is 1 */
+    uint64_t line;          /* INT's level: 1 quiet, 0 asserted */
 };
 
 /* C99 has no static assertion: an array of -1 bytes stops its compiler, so that no processor's layout goes unseen. */
@@ -52,7 +55,9 @@ GHIXRAMEL_ASSERT(registers, offsetof(struct ghixramel_image, registers) == 32);
 GHIXRAMEL_ASSERT(pointer, offsetof(struct ghixramel_image, pointer) == 160);
 GHIXRAMEL_ASSERT(bus, offsetof(struct ghixramel_image, bus) == 168);
 GHIXRAMEL_ASSERT(choice, offsetof(struct ghixramel_image, choice) == 176);
-GHIXRAMEL_ASSERT(image_size, sizeof(struct ghixramel_image) == 184);
+GHIXRAMEL_ASSERT(status, offsetof(struct ghixramel_image, status) == 184);
+GHIXRAMEL_ASSERT(line, offsetof(struct ghixramel_image, line) == 192);
+GHIXRAMEL_ASSERT(image_size, sizeof(struct ghixramel_image) == 200);
 #undef GHIXRAMEL_ASSERT
 
 /* Refusals. */
@@ -60,7 +65,7 @@ enum {
     GHIXRAMEL_DONE = 0,
     GHIXRAMEL_BAD_KIND = 1,     /* event kind above 5 */
     GHIXRAMEL_BAD_ARGUMENT = 2, /* byte, acknowledge bit, levels, address choice, register number or a burst's third word out of range */
-    GHIXRAMEL_BAD_IMAGE = 3,    /* broken: a number out of range, an entry where none is stored, or a state that no image makes */
+    GHIXRAMEL_BAD_IMAGE = 3,    /* broken: a number out of range, an entry where none is stored, a wrong status or line, or words of no image */
     GHIXRAMEL_NO_QUIET_WAY = 4, /* no list of writes gets there without disturbing a pin */
     GHIXRAMEL_BAD_SETTING = 5,  /* start or goal not ten bytes, or its 5C over 7 */
     GHIXRAMEL_BUFFER_SMALL = 6, /* plan buffer under GHIXRAMEL_PLAN_BYTES */
@@ -131,19 +136,21 @@ uint32_t ghixramel_int(const struct ghixramel *device, uint8_t asserted[1]);
 uint32_t ghixramel_show(const struct ghixramel *device, uint32_t number, uint8_t shown[1]);
 
 /* The words of an image, and back, for a host that lays out its images itself; those on the structs come below.
- * bus is the pointer, the bus state and the address choice. Refusal 3. */
-uint32_t ghixramel_pack(uint64_t words[28], const uint64_t pins[4], const uint8_t registers[128], const uint64_t bus[3]);
-uint32_t ghixramel_unpack(const uint64_t words[28], uint64_t pins[4], uint8_t registers[128], uint64_t bus[3]);
+ * rest is the pointer, the bus state, the address choice, the status and the line. Refusal 3. */
+uint32_t ghixramel_pack(uint64_t words[28], const uint64_t pins[4], const uint8_t registers[128], const uint64_t rest[5]);
+uint32_t ghixramel_unpack(const uint64_t words[28], uint64_t pins[4], uint8_t registers[128], uint64_t rest[5]);
 
 /* The image of a state. Refusal 3. */
 static inline uint32_t ghixramel_to_image(const struct ghixramel *device, struct ghixramel_image *image)
 {
-    uint64_t bus[3] = {0};
-    uint32_t refusal = ghixramel_unpack(device->words, image->pins, image->registers, bus);
+    uint64_t rest[5] = {0};
+    uint32_t refusal = ghixramel_unpack(device->words, image->pins, image->registers, rest);
     if (refusal == GHIXRAMEL_DONE) {
-        image->pointer = bus[0];
-        image->bus = bus[1];
-        image->choice = bus[2];
+        image->pointer = rest[0];
+        image->bus = rest[1];
+        image->choice = rest[2];
+        image->status = rest[3];
+        image->line = rest[4];
     }
     return refusal;
 }
@@ -151,8 +158,8 @@ static inline uint32_t ghixramel_to_image(const struct ghixramel *device, struct
 /* A device in the state that the image says; what its memory held does not matter. Refusal 3. */
 static inline uint32_t ghixramel_from_image(struct ghixramel *device, const struct ghixramel_image *image)
 {
-    const uint64_t bus[3] = {image->pointer, image->bus, image->choice};
-    return ghixramel_pack(device->words, image->pins, image->registers, bus);
+    const uint64_t rest[5] = {image->pointer, image->bus, image->choice, image->status, image->line};
+    return ghixramel_pack(device->words, image->pins, image->registers, rest);
 }
 
 /* The writes that lead from one setting to another: writes[0] pairs register, value from the start of the buffer,
