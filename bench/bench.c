@@ -55,6 +55,8 @@ static void same_state(const struct ghixramel *ours, const struct peer *peer, si
     same(image.pointer, peer->pointer, "pointers", place);
     same(image.bus, peer->bus, "bus states", place);
     same(image.choice, peer->choice, "address choices", place);
+    same(image.status, peer->status, "status sets", place);
+    same(image.line, peer->line, "lines", place);
     if (memcmp(image.registers, peer->registers, sizeof peer->registers) != 0)
         differ("registers", place);
 }

@@ -1,4 +1,5 @@
-/* Refusal 3: every way that an image is broken, and that the words of a state are; and the bounds that still pass. */
+/* Refusal 3: every way that an image is broken, and that the words of a state are; and the bounds that still pass. Each is broken in
+ * one way only: status and line follow what is changed, so that a wrong one does not hide it. */
 #include "checks.h"
 #include "guarded.h"
 #include "host_checks.h"
@@ -91,41 +92,77 @@ static void try_large_bus_numbers(const struct ghixramel_image *whole)
     }
 }
 
+static struct ghixramel_image with_pins(const struct ghixramel_image *whole, int set, uint64_t pins)
+{
+    struct ghixramel_image image = *whole;
+    image.pins[set] = pins;
+    return kept(image);
+}
+
 static void try_pin_sets(const struct ghixramel_image *whole)
 {
     static const char *const names[4] = {"level", "reference", "held", "edge"};
     for (int set = 0; set < 4; set++) {
-        struct ghixramel_image image = *whole;
-        image.pins[set] = ALL_PINS;
+        struct ghixramel_image image = with_pins(whole, set, ALL_PINS);
         want_image_whole(names[set], ALL_PINS, &image);
         for (int bit = 24; bit < 64; bit++) {
-            image.pins[set] = (uint64_t)1 << bit;
+            image = with_pins(whole, set, (uint64_t)1 << bit);
             want_image_broken(names[set], image.pins[set], &image);
         }
-        image.pins[set] = UINT64_MAX;
+        image = with_pins(whole, set, UINT64_MAX);
         want_image_broken(names[set], UINT64_MAX, &image);
     }
+}
+
+static struct ghixramel_image with_entry(const struct ghixramel_image *whole, uint32_t number, uint32_t value)
+{
+    struct ghixramel_image image = *whole;
+    image.registers[number] = (uint8_t)value;
+    return kept(image);
 }
 
 static void try_entries(const struct ghixramel_image *whole)
 {
     for (uint32_t number = 0; number < REGISTERS; number++) {
-        struct ghixramel_image image = *whole;
-        image.registers[number] = stored_bits(number);
+        struct ghixramel_image image = with_entry(whole, number, stored_bits(number));
         want_image_whole("all bits set that are stored, in entry", number, &image);
         for (int bit = 0; bit < 8; bit++) {
-            image.registers[number] = (uint8_t)(1 << bit);
+            image = with_entry(whole, number, 1u << bit);
             if (~stored_bits(number) & 1 << bit)
                 want_image_broken("a bit set that is not stored, in entry", number, &image);
         }
-        image.registers[number] = 0xFF;
+        image = with_entry(whole, number, 0xFF);
         if (stored_bits(number) != 0xFF)
             want_image_broken("all bits set, in entry", number, &image);
     }
     for (uint32_t value = 8; value <= UINT8_MAX; value++) {
-        struct ghixramel_image image = *whole;
-        image.registers[0x5C] = (uint8_t)value;
+        struct ghixramel_image image = with_entry(whole, 0x5C, value);
         want_image_broken("5C", value, &image);
+    }
+}
+
+/* A status bit too many or too few, past the pins too, with the line as it was and with the one that would fit it. */
+static void try_status(const struct ghixramel_image *whole)
+{
+    for (int bit = 0; bit < 64; bit++) {
+        struct ghixramel_image image = *whole;
+        image.status ^= (uint64_t)1 << bit;
+        want_image_broken("status", image.status, &image);
+        image.line = image.status == 0;
+        want_image_broken("status with the line that fits it", image.status, &image);
+    }
+}
+
+/* The other one, and numbers that are neither. */
+static void try_lines(const struct ghixramel_image *whole)
+{
+    for (int bit = 0; bit < 64; bit++) {
+        struct ghixramel_image image = *whole;
+        image.line ^= (uint64_t)1 << bit;
+        want_image_broken("line", image.line, &image);
+        image.line = (uint64_t)1 << bit;
+        if (bit > 0)
+            want_image_broken("line", image.line, &image);
     }
 }
 
@@ -135,19 +172,31 @@ static void try_image(const struct ghixramel_image *whole)
     try_large_bus_numbers(whole);
     try_pin_sets(whole);
     try_entries(whole);
+    try_status(whole);
+    try_lines(whole);
+}
+
+static int is_kept(uint32_t word)
+{
+    return word == STATUS_WORD || word == LINE_WORD;
+}
+
+static struct ghixramel with_word(const struct ghixramel *whole, uint32_t word, uint64_t value)
+{
+    struct ghixramel device = *whole;
+    device.words[word] = value;
+    return is_kept(word) ? device : kept_words(device);
 }
 
 static void want_word_broken(const struct ghixramel *whole, uint32_t word, uint64_t value)
 {
-    struct ghixramel device = *whole;
-    device.words[word] = value;
+    struct ghixramel device = with_word(whole, word, value);
     want_broken("broken word", word, &device);
 }
 
 static void want_word_whole(const struct ghixramel *whole, uint32_t word, uint64_t value)
 {
-    struct ghixramel device = *whole;
-    device.words[word] = value;
+    struct ghixramel device = with_word(whole, word, value);
     want_whole("word at its bounds", word, &device);
 }
 
@@ -163,10 +212,37 @@ static void try_bits(const struct ghixramel *whole)
             want_word_broken(whole, word, value);
         }
         want_word_broken(whole, word, UINT64_MAX);
+        if (is_kept(word))
+            continue;
         want_word_whole(whole, word, 0);
         if (word != POINTER_WORD)
             want_word_whole(whole, word, word_bits[word]);
     }
+}
+
+/* Each status bit the other way, with the line as it was and with the one that would fit; and the line the other way. */
+static void try_kept_words(const struct ghixramel *whole)
+{
+    for (int bit = 0; bit < 24; bit++) {
+        struct ghixramel device = with_word(whole, STATUS_WORD, whole->words[STATUS_WORD] ^ (uint64_t)1 << bit);
+        want_broken("status word", device.words[STATUS_WORD], &device);
+        device.words[LINE_WORD] = device.words[STATUS_WORD] == 0;
+        want_broken("status word with the line that fits it", device.words[STATUS_WORD], &device);
+    }
+    want_word_broken(whole, LINE_WORD, whole->words[LINE_WORD] ^ 1);
+}
+
+/* Each word that they come of, changed without them. */
+static void try_words_they_come_of(const struct ghixramel *whole)
+{
+    for (uint32_t word = 0; word < WORDS; word++)
+        for (int bit = 0; bit < 64; bit++) {
+            struct ghixramel device = *whole;
+            device.words[word] ^= word_bits[word] & (uint64_t)1 << bit;
+            struct ghixramel right = kept_words(device);
+            if (!is_kept(word) && right.words[STATUS_WORD] != device.words[STATUS_WORD])
+                want_broken("status of another moment, changed word", word, &device);
+        }
 }
 
 /* Two words with the same wrong bit, which a sum or a difference would lose. */
@@ -191,6 +267,7 @@ static void try_pointers(const struct ghixramel *whole)
 static void try_sister(void)
 {
     struct ghixramel sister = {0};
+    sister.words[LINE_WORD] = 1;
     sister.words[PART_WORD] = 1;
     want_broken("sister part", 0, &sister);
     for (int set = 0; set < 4; set++)
@@ -198,9 +275,10 @@ static void try_sister(void)
     want_broken("sister part, pins set", 0x3FFFFFFFF, &sister);
 }
 
+/* Zeros too: their line is asserted, and nothing pends. */
 static void try_all_words(void)
 {
-    for (uint32_t byte = 1; byte <= UINT8_MAX; byte++) {
+    for (uint32_t byte = 0; byte <= UINT8_MAX; byte++) {
         struct ghixramel device;
         memset(&device, (int)byte, sizeof device);
         want_broken("every byte of a state", byte, &device);
@@ -212,6 +290,8 @@ static void try_words(const struct ghixramel_image *image)
     struct ghixramel whole = device_from(image);
     want_whole("the words themselves", 0, &whole);
     try_bits(&whole);
+    try_kept_words(&whole);
+    try_words_they_come_of(&whole);
     try_pairs(&whole);
     try_pointers(&whole);
 }

@@ -25,6 +25,12 @@ static void carry(const struct ghixramel_image *image)
     SAME("words are others than those of the image", &packed, &device);
 }
 
+static void carry_kept(struct ghixramel_image image)
+{
+    image = kept(image);
+    carry(&image);
+}
+
 static void random_images(void)
 {
     uint64_t random = SEED;
@@ -41,11 +47,11 @@ static void one_bit(uint32_t number, uint32_t bit)
     struct ghixramel_image image = {0};
     about("one bit of register", number << 8 | bit);
     image.registers[number] = (uint8_t)(1u << bit);
-    carry(&image);
+    carry_kept(image);
     for (uint32_t other = 0; other < REGISTERS; other++)
         image.registers[other] = stored_bits(other);
     image.registers[number] ^= (uint8_t)(1u << bit);
-    carry(&image);
+    carry_kept(image);
 }
 
 static void one_pin(uint32_t set, uint32_t pin)
@@ -53,11 +59,23 @@ static void one_pin(uint32_t set, uint32_t pin)
     struct ghixramel_image image = {0};
     about("one pin of set", set << 8 | pin);
     image.pins[set] = (uint64_t)1 << pin;
-    carry(&image);
+    carry_kept(image);
     for (int i = 0; i < 4; i++)
         image.pins[i] = ALL_PINS;
     image.pins[set] ^= (uint64_t)1 << pin;
-    carry(&image);
+    carry_kept(image);
+}
+
+/* Of all pins unmasked inputs one has left its reference, or all but one have. */
+static void one_status_bit(uint32_t pin)
+{
+    struct ghixramel_image image = power_on_image(0, 0);
+    about("one status bit", pin);
+    memset(image.registers + 0x54, 0x00, 3);
+    image.pins[0] = (uint64_t)1 << pin;
+    carry_kept(image);
+    image.pins[0] ^= ALL_PINS;
+    carry_kept(image);
 }
 
 static void single_bits(void)
@@ -69,9 +87,11 @@ static void single_bits(void)
     for (uint32_t set = 0; set < 4; set++)
         for (uint32_t pin = 0; pin < 24; pin++)
             one_pin(set, pin);
+    for (uint32_t pin = 0; pin < 24; pin++)
+        one_status_bit(pin);
 }
 
-/* After every event the image is the peer's, and the peer's image makes the same state. */
+/* After every event the image is the peer's, its status and line are what the rest gives, and the peer's image makes the same state. */
 static void run_beside_peer(struct ghixramel *device, struct mix *mix)
 {
     struct ghixramel_image begun = image_of(device);
@@ -83,7 +103,9 @@ static void run_beside_peer(struct ghixramel *device, struct mix *mix)
         want("answer", (uint32_t)answer[0] << 8 | answer[1], answer_to(device, event.kind, event.argument));
         struct ghixramel_image image = image_of(device), peers = image_of_peer(&peer);
         struct ghixramel from_peers = device_from(&peers);
+        struct ghixramel_image worked_out = kept(image);
         SAME("image differs from the peer's", &peers, &image);
+        SAME("status or line is not what pins and registers give", &worked_out, &image);
         SAME("state differs from that of the peer's image", &from_peers, device);
     }
 }

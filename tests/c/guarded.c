@@ -46,7 +46,7 @@ struct lent {
     uint8_t guard_3[GUARD];
     uint8_t registers[128];
     uint8_t guard_4[GUARD];
-    uint64_t bus[3];
+    uint64_t rest[5]; /* pointer, bus state, address choice, status, line */
     uint8_t guard_5[GUARD];
     struct ghixramel_image image;
     uint8_t guard_6[GUARD];
@@ -104,7 +104,7 @@ static void show(void)
 
 static void from_arrays(void)
 {
-    refusal = ghixramel_pack(at->words, lent.pins, lent.registers, lent.bus);
+    refusal = ghixramel_pack(at->words, lent.pins, lent.registers, lent.rest);
 }
 
 static void from_struct(void)
@@ -114,7 +114,7 @@ static void from_struct(void)
 
 static void to_arrays(void)
 {
-    refusal = ghixramel_unpack(at->words, lent.pins, lent.registers, lent.bus);
+    refusal = ghixramel_unpack(at->words, lent.pins, lent.registers, lent.rest);
 }
 
 static void to_struct(void)
@@ -148,7 +148,7 @@ static void allow_image(void)
     }
     allow(lent.pins, sizeof lent.pins);
     allow(lent.registers, sizeof lent.registers);
-    allow(lent.bus, sizeof lent.bus);
+    allow(lent.rest, sizeof lent.rest);
 }
 
 /* A number of writes that is too large is a failed check. */
@@ -240,8 +240,8 @@ static void watch(enum function function, void (*call)(void), void (*second_call
     same_as_first("state differs on a second call", &first.device, &lent.elsewhere, sizeof first.device);
     same_as_first("pin sets differ on a second call", first.pins, lent.image.pins, sizeof first.pins);
     same_as_first("registers differ on a second call", first.registers, lent.image.registers, sizeof first.registers);
-    same_as_first("bus numbers differ on a second call", first.bus,
-                  (const uint8_t *)&lent.image + offsetof(struct ghixramel_image, pointer), sizeof first.bus);
+    same_as_first("the rest of the image differs on a second call", first.rest,
+                  (const uint8_t *)&lent.image + offsetof(struct ghixramel_image, pointer), sizeof first.rest);
     same_as_first("results differ on a second call", &first.results, &lent.results, sizeof first.results);
     if (function == BURST)
         same_as_first("what a burst was lent differs on a second call", &first.burst, &lent.burst, sizeof first.burst);
@@ -263,10 +263,10 @@ static void lend(const struct ghixramel *device, struct numbers with)
 
 static void lend_image(const struct ghixramel_image *image)
 {
-    const uint64_t bus[3] = {image->pointer, image->bus, image->choice};
+    const uint64_t rest[5] = {image->pointer, image->bus, image->choice, image->status, image->line};
     memcpy(lent.pins, image->pins, sizeof lent.pins);
     memcpy(lent.registers, image->registers, sizeof lent.registers);
-    memcpy(lent.bus, bus, sizeof lent.bus);
+    memcpy(lent.rest, rest, sizeof lent.rest);
     memcpy(&lent.image, image, sizeof lent.image);
 }
 

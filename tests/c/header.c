@@ -27,11 +27,15 @@ static int done_in_a_burst(struct ghixramel *device)
 
 static int carried(struct ghixramel *device)
 {
-    struct ghixramel_image image = {{0}, {0}, 0, 0, 0};
+    struct ghixramel_image image = {{0}, {0}, 0, 0, 0, 0, 0};
     if (ghixramel_to_image(device, &image) != GHIXRAMEL_DONE || image.choice != 3 || image.registers[0x54] != 0xFF)
         return 0;
-    if (ghixramel_from_image(device, &image) != GHIXRAMEL_DONE)
+    if (image.status != 0 || image.line != 1 || ghixramel_from_image(device, &image) != GHIXRAMEL_DONE)
         return 0;
+    image.line = 0;
+    if (ghixramel_from_image(device, &image) != GHIXRAMEL_BAD_IMAGE)
+        return 0;
+    image.line = 1;
     image.choice = 4;
     return ghixramel_from_image(device, &image) == GHIXRAMEL_BAD_IMAGE;
 }

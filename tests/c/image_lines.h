@@ -1,4 +1,4 @@
-/* An image as the eight fields of a line. */
+/* An image as the ten fields of a line. */
 #ifndef IMAGE_LINES_H
 #define IMAGE_LINES_H
 
@@ -6,15 +6,16 @@
 
 #include <ghixramel.h>
 
-/* What the eight fields and the tab after each take. */
-enum { IMAGE_BYTES = 334 };
+/* What the ten fields and the tab after each take. */
+enum { IMAGE_BYTES = 354 };
 
 static inline const uint8_t *image_fields(const uint8_t *at, struct ghixramel_image *image)
 {
     at = registers_field(at, image->registers);
     for (int i = 0; i < 4; i++)
         at = field(at, 16, &image->pins[i]);
-    return field(field(field(at, 2, &image->pointer), 2, &image->bus), 2, &image->choice);
+    at = field(field(field(at, 2, &image->pointer), 2, &image->bus), 2, &image->choice);
+    return field(field(at, 16, &image->status), 2, &image->line);
 }
 
 static inline uint8_t *put_number(uint8_t *to, uint64_t number)
@@ -31,7 +32,9 @@ static inline uint8_t *put_image(uint8_t *to, const struct ghixramel_image *imag
         to = put_number(put_byte(to, '\t'), image->pins[i]);
     to = put_hex(put_byte(to, '\t'), (uint32_t)image->pointer, 2);
     to = put_hex(put_byte(to, '\t'), (uint32_t)image->bus, 2);
-    return put_hex(put_byte(to, '\t'), (uint32_t)image->choice, 2);
+    to = put_hex(put_byte(to, '\t'), (uint32_t)image->choice, 2);
+    to = put_number(put_byte(to, '\t'), image->status);
+    return put_hex(put_byte(to, '\t'), (uint32_t)image->line, 2);
 }
 
 #endif

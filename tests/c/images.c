@@ -4,6 +4,8 @@
 
 #include <libc.h>
 
+enum { CONFIGURATION = 0x0C, LATCH = 0x48, MASK = 0x54, EDGE = 0x60 };
+
 const struct group groups[GROUPS] = {
     {0x00, 0x02, 0x00, 0x00}, /* input port */
     {0x04, 0x06, 0xFF, 0xFF}, /* output */
@@ -38,6 +40,31 @@ uint8_t stored_bits(uint32_t number)
     return group ? group->stored : 0;
 }
 
+/* Pin 8k + j is bit j of port k's register. */
+static int bit_at(const struct ghixramel_image *image, uint32_t first, uint32_t pin)
+{
+    return image->registers[first + pin / 8] >> pin % 8 & 1;
+}
+
+static int pending(const struct ghixramel_image *image, uint32_t pin)
+{
+    int level = image->pins[0] >> pin & 1, reference = image->pins[1] >> pin & 1;
+    int held = image->pins[2] >> pin & 1, edge = image->pins[3] >> pin & 1;
+    if (image->registers[EDGE + pin / 4] >> 2 * (pin % 4) & 3)
+        return edge;
+    return bit_at(image, LATCH, pin) ? held : level != reference;
+}
+
+struct ghixramel_image kept(struct ghixramel_image image)
+{
+    image.status = 0;
+    for (uint32_t pin = 0; pin < 24; pin++)
+        if (bit_at(&image, CONFIGURATION, pin) && !bit_at(&image, MASK, pin) && pending(&image, pin))
+            image.status |= (uint64_t)1 << pin;
+    image.line = image.status == 0;
+    return image;
+}
+
 static uint8_t random_pointer(uint64_t *random)
 {
     const struct group *group = &groups[random_below(random, GROUPS)];
@@ -54,12 +81,12 @@ struct ghixramel_image random_image(uint64_t *random)
     image.pointer = random_pointer(random);
     image.bus = random_below(random, 8);
     image.choice = random_below(random, 4);
-    return image;
+    return kept(image);
 }
 
 struct ghixramel_image power_on_image(uint32_t choice, uint64_t levels)
 {
-    struct ghixramel_image image = {.pins = {levels, levels}, .bus = GHIXRAMEL_IDLE, .choice = choice};
+    struct ghixramel_image image = {.pins = {levels, levels}, .bus = GHIXRAMEL_IDLE, .choice = choice, .status = 0, .line = 1};
     for (int i = 0; i < GROUPS; i++)
         for (uint32_t number = groups[i].first; number <= groups[i].last; number++)
             image.registers[number] = groups[i].power_on;

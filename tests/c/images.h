@@ -20,6 +20,9 @@ const struct group *group_of(uint32_t number);
 /* The bits of an entry that can be other than 0. */
 uint8_t stored_bits(uint32_t number);
 
+/* The image with the status and the line that its pins and registers give, pins past the last one left out. */
+struct ghixramel_image kept(struct ghixramel_image image);
+
 /* Any state that a device can be in. */
 struct ghixramel_image random_image(uint64_t *random);
 

@@ -10,7 +10,13 @@
 static inline struct ghixramel_image image_of_peer(const struct peer *peer)
 {
     struct ghixramel_image image = {
-        {peer->level, peer->reference, peer->held, peer->edge}, {0}, peer->pointer, peer->bus, peer->choice};
+        .pins = {peer->level, peer->reference, peer->held, peer->edge},
+        .pointer = peer->pointer,
+        .bus = peer->bus,
+        .choice = peer->choice,
+        .status = peer->status,
+        .line = peer->line,
+    };
     memcpy(image.registers, peer->registers, sizeof image.registers);
     return image;
 }
@@ -18,8 +24,15 @@ static inline struct ghixramel_image image_of_peer(const struct peer *peer)
 static inline struct peer peer_of_image(const struct ghixramel_image *image)
 {
     struct peer peer = {
-        image->pins[0], image->pins[1],          image->pins[2],      image->pins[3],
-        {0},            (uint8_t)image->pointer, (uint8_t)image->bus, (uint8_t)image->choice,
+        .level = image->pins[0],
+        .reference = image->pins[1],
+        .held = image->pins[2],
+        .edge = image->pins[3],
+        .status = image->status,
+        .pointer = (uint8_t)image->pointer,
+        .bus = (uint8_t)image->bus,
+        .choice = (uint8_t)image->choice,
+        .line = (uint8_t)image->line,
     };
     memcpy(peer.registers, image->registers, sizeof peer.registers);
     return peer;

@@ -12,7 +12,7 @@ static void worked_example(void)
     static const struct {
         uint32_t kind;
         uint64_t argument;
-        uint32_t answer, asserted;
+        uint32_t answer, asserted; /* pin 0 is the one that asserts */
     } events[] = {
         {GHIXRAMEL_START, 0, NOTHING, 0}, {GHIXRAMEL_BYTE, 0x44, ACK, 0},           {GHIXRAMEL_BYTE, 0x54, ACK, 0},
         {GHIXRAMEL_BYTE, 0xFE, ACK, 0},   {GHIXRAMEL_LEVELS, 0x000001, NOTHING, 1},
@@ -25,6 +25,8 @@ static void worked_example(void)
         about("worked example, event", i + 1);
         want("answer", events[i].answer, answer_to(&device, events[i].kind, events[i].argument));
         want("INT", events[i].asserted, int_of(&device));
+        want("status", events[i].asserted ? PIN_0 : 0, image_of(&device).status);
+        want("line", !events[i].asserted, image_of(&device).line);
         want_drives(&device, 0, 0);
     }
 }

@@ -103,6 +103,8 @@ static void want_power_on(uint32_t choice, uint64_t levels)
     want("pointer", 0, image.pointer);
     want("bus state", GHIXRAMEL_IDLE, image.bus);
     want("address choice", choice, image.choice);
+    want("status", 0, image.status);
+    want("line", 1, image.line);
     for (uint32_t number = 0; number < REGISTERS; number++) {
         about("register after power-on", number);
         want("value", group_of(number) ? group_of(number)->power_on : 0, image.registers[number]);

@@ -11,7 +11,7 @@ const uint64_t word_bits[WORDS] = {
     ALL_PINS, ALL_PINS,                     /* drive strength: low bits, high bits */
     ALL_PINS, ALL_PINS,                     /* pull enable, pull select */
     0xFFFF,   0xFF,                         /* debounce enable, debounce count */
-    0,        0,                            /* unused */
+    ALL_PINS, 1,                            /* status, line */
     0x7F,     0x07,     0x03,               /* pointer, bus state, address choice */
     0,        0,        0,                  /* unused */
     0,                                      /* part */
@@ -45,7 +45,16 @@ struct ghixramel words_of(const struct ghixramel_image *image)
         field_bits(image, 0x40, 0), field_bits(image, 0x40, 1),
         bytes_at(image, 0x4C, 3), bytes_at(image, 0x50, 3),
         bytes_at(image, 0x74, 2), bytes_at(image, 0x76, 1),
-        0, 0,
+        image->status, image->line,
         image->pointer, image->bus, image->choice,
     }};
+}
+
+struct ghixramel kept_words(struct ghixramel device)
+{
+    uint64_t *w = device.words, by_edge = w[8] | w[9];
+    uint64_t by_level = (w[5] & w[2]) | (~w[5] & (w[0] ^ w[1]));
+    w[STATUS_WORD] = ALL_PINS & w[4] & ~w[6] & ((by_edge & w[3]) | (~by_edge & by_level));
+    w[LINE_WORD] = w[STATUS_WORD] == 0;
+    return device;
 }
