@@ -6,6 +6,7 @@ use Prim.Native.Nat.{ℕ, zero, suc, _+_, _-_, _*_, _/_, _%_, _≤_, _<_, _^_}
 use native.Mathlib.Nat.{mod-lt, div-add-mod'}
 use native.Mathlib.Omega.{arith}
 use borrow.Author.Tests.{ltb-true, ltb-false}
+use lib.Bits.{bitAnd}
 use lib.Dec.{ltb}
 use lib.ListN.{getD}
 use Rattle.bits.specs.Bits.{bit, tabulate}
@@ -45,7 +46,7 @@ module _ (a b c : ℕ) (ha : a < 256) (hb : b < 256) (hc : c < 256) where
 
 -- a bit for each port, at its pins
 abbrev pub spreadOf : ℕ → ℕ
-spreadOf b = ((b % 2 * 0xff + b / 2 % 2 * 0xff00) + b / 4 % 2 * 0xff_0000) + b / 8 % 2 * 0xff00_0000 + b / 16 * 0xff_0000_0000
+spreadOf b = bitAnd (b * 0x1020_4081) 0x01_0101_0101 * 0xff
 
 spread-set : (b : ℕ) → b < 32 → spreadOf b ≡ tabulate 40 (λ i. bit b (i / 8))
 unfolding bit tabulate

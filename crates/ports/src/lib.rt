@@ -43,10 +43,9 @@ pub fn spread(byte: u8) -> u64
     requires { ⌜ byte < 32 ⌝ }
     ensures { λ s. ⌜ ((i : ℕ) → bit s i ≡ bit byte (i / 8)) ⌝ }
 {
-    let low = (byte % 2) as u64 * 0xff
-        + (byte / 2 % 2) as u64 * 0xff00
-        + (byte / 4 % 2) as u64 * 0xff_0000;
-    low + (byte / 8 % 2) as u64 * 0xff00_0000 + (byte / 16) as u64 * 0xff_0000_0000
+    // copies seven bits apart have bit k where port k's pins begin
+    let copies = byte as u64 * 0x1020_4081;
+    (copies & 0x01_0101_0101) * 0xff
 }
 
 // Four bits at the pins of edge register k.
