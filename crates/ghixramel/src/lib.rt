@@ -54,8 +54,8 @@ pub extern "C" fn ghixramel_step(
 ) -> u32
     ensures { λ r. ⌜ Told (now (words .entry)) kind argument r (now (words .exit)) (now (answer .entry)) (now (answer .exit)) ⌝ }
 {
-    let given = words_bus::answer(words_device::step24(words, kind, argument));
-    host_words::tell(given, answer)
+    let number = words_device::step24(words, kind, argument);
+    host_words::tell(number, answer)
 }
 
 // The pins driven low and high.

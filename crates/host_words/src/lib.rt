@@ -3,32 +3,24 @@ ghost use mathlib.Core.Path.{_≡_};
 ghost use mathlib.Core.Bool.{cond};
 ghost use Rattle.device_rules.specs.Answers.{refusalNumber};
 ghost use Rattle.planner_promise.specs.Promise.{refusalOf};
+ghost use Rattle.words_bus.specs.Packed.{answerAt};
 ghost use Rattle.host_words.specs.Host.{toldAs, writesAfter};
-use device_rules::Answer;
 use planner_promise::Planned;
 
-// An answer as its kind and its byte; a refusal as its number alone.
-pub fn tell(answer: Answer, told: &mut [u8; 2]) -> u32
-    ensures { λ r. ⌜ (r ≡ refusalNumber answer)
-        × (now (told .exit) ≡ toldAs answer (now (told .entry))) ⌝ }
+// The last kind of an answer: what is above is a refusal's.
+const READ: u32 = 3;
+
+// An answer that is given as a number, told as its kind and its byte; a refusal as its number alone.
+pub fn tell(number: u32, told: &mut [u8; 2]) -> u32
+    ensures { λ r. ⌜ (r ≡ refusalNumber (answerAt number))
+        × (now (told .exit) ≡ toldAs (answerAt number) (now (told .entry))) ⌝ }
 {
-    match answer {
-        Answer::Nothing => {
-            *told = [0, 0];
-        }
-        Answer::Ack => {
-            *told = [1, 0];
-        }
-        Answer::Nak => {
-            *told = [2, 0];
-        }
-        Answer::Byte(b) => {
-            *told = [3, b];
-        }
-        Answer::Refused(n) => {
-            return n as u32;
-        }
+    let kind = number % 256;
+    if READ < kind {
+        return number / 256 % 256;
     }
+    let byte = words_bus::byte_read(number);
+    *told = [kind as u8, byte];
     0
 }
 

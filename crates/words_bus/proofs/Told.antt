@@ -2,11 +2,12 @@
 use mathlib.Core.Path.{_≡_, refl, ap}
 use mathlib.Core.Bool.{false}
 use mathlib.Core.List.{[], _∷_}
-use Prim.Native.Nat.{ℕ, zero, suc, _/_, _%_}
+use Prim.Native.Nat.{ℕ, zero, suc, _/_, _%_, _<_}
+use native.Mathlib.Omega.{arith}
 use lib.Dec.{eqb}
 use lib.ListN.{getD}
 use Rattle.bits.proofs.Decide.{clash}
-use Rattle.device_rules.specs.Answers.{answerKind, answerByte}
+use Rattle.device_rules.specs.Answers.{answerKind, answerByte, refusalNumber}
 use Rattle.device_rules.specs.declared.Answer.{Answer}
 use Rattle.device_rules.specs.declared.Answer.the-variants.{Nothing, Ack, Nak, Byte, Refused}
 use Rattle.words_bus.specs.Packed.{answerAt}
@@ -38,3 +39,24 @@ byte-none n h = no-byte (n % 256) (n / 256 % 256) h
 -- of an answer that is no refusal
 pub kind-told : (n : ℕ) → eqb (answerKind (answerAt n)) 4 ≡ false → answerKind (answerAt n) ≡ n % 256
 kind-told n h = kind-by (n % 256) (n / 256 % 256) h
+
+-- a kind over 3 is a refusal's, and the value its number
+refused-by : (k v : ℕ) → 3 < k → (answerKind (by k v) ≡ 4) × (refusalNumber (by k v) ≡ v)
+refused-by zero v h = absurd (omega arith)
+refused-by (suc zero) v h = absurd (omega arith)
+refused-by (suc (suc zero)) v h = absurd (omega arith)
+refused-by (suc (suc (suc zero))) v h = absurd (omega arith)
+refused-by (suc (suc (suc (suc k)))) v h = (refl, refl)
+
+answered-by : (k v : ℕ) → k < 4 → (answerKind (by k v) ≡ k) × (refusalNumber (by k v) ≡ 0)
+answered-by zero v h = (refl, refl)
+answered-by (suc zero) v h = (refl, refl)
+answered-by (suc (suc zero)) v h = (refl, refl)
+answered-by (suc (suc (suc zero))) v h = (refl, refl)
+answered-by (suc (suc (suc (suc k)))) v h = absurd (omega arith)
+
+pub refused-told : (n : ℕ) → 3 < n % 256 → (answerKind (answerAt n) ≡ 4) × (refusalNumber (answerAt n) ≡ n / 256 % 256)
+refused-told n h = refused-by (n % 256) (n / 256 % 256) h
+
+pub answered-told : (n : ℕ) → n % 256 < 4 → (answerKind (answerAt n) ≡ n % 256) × (refusalNumber (answerAt n) ≡ 0)
+answered-told n h = answered-by (n % 256) (n / 256 % 256) h

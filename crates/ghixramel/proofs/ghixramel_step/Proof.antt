@@ -1,17 +1,13 @@
 -- `ghixramel_step`: the step on words, told in numbers (`told-of`). Assumes nothing.
 use borrow.Author.Needs.{needs}
-use mathlib.Core.Path.{sym, subst}
-use Rattle.words_bus.specs.Packed.{Steps}
 use Rattle.host_words.proofs.Laws.{told-of}
 use Rattle.ghixramel.proofs.ghixramel_step.Statement.{statement}
 use Rattle.ghixramel.proofs.ghixramel_step.Tie as tie
 
 returns : tie.Need-returns
 returns c =
-    let answer = c .before .before in
-    let step = answer .before in
-    let x = step .before .before .args in
-    told-of _ _ _ _ _ _ _ _ (subst (Steps 0 (x .words .now) _ (x .kind) (x .argument)) (sym (answer .answer .ensures)) (step .step24 .ensures)) (c .tell .ensures .0) (c .tell .ensures .1)
+    let step = c .before .before in
+    told-of _ _ _ _ _ _ _ _ (step .step24 .ensures) (c .tell .ensures .0) (c .tell .ensures .1)
 
 pub ghixramel-step-spec : {M : Type 1} → statement M
-ghixramel-step-spec = tie.close (tie.spec (λ c κs. search needs) (λ c κs. search needs) (λ c κs. search needs) returns)
+ghixramel-step-spec = tie.close (tie.spec (λ c κs. search needs) (λ c κs. search needs) returns)
