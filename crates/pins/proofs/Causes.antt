@@ -4,7 +4,7 @@ use mathlib.Core.Bool.{Bool, true, false, not, _&&_, _||_}
 use borrow.Author.Tests.{not-true}
 use Rattle.bits.specs.Bits.{differs}
 use Rattle.bits.proofs.Decide.{clash, and-left, and-right, taut}
-use Rattle.pins.specs.Pin.{source, pin, pending, status, settle, matches, levelTo, clearWritten, maskWritten, latchWritten, configurationWritten}
+use Rattle.pins.specs.Pin.{source, pin, pending, status, matches, levelTo, clearWritten, maskWritten, latchWritten, configurationWritten}
 use Rattle.pins.specs.OnePin.{OnePin, Happening, registersAfter, pinAfter, after, statusOf}
 use Rattle.pins.specs.OnePin.Happening.{LevelTo, InputFetched, ClearWritten, MaskWritten, EdgeWritten, LatchWritten, ConfigurationWritten, OutputWritten, PolarityWritten, PortKindWritten, PinKindWritten, StoredWritten, Reset, Elsewhere}
 use Rattle.pins.specs.Cause.{Cause}
@@ -43,8 +43,8 @@ latched-ends = taut 9 _ _ tt
 
 input-ends : (configuration mask latch rising falling level reference held edge : Bool)
     → (not (status (source configuration mask latch rising falling) (pin level reference held edge))
-    || status (source true mask latch rising falling) (configurationWritten configuration true (pin level reference held edge)) || false) ≡ true
-unfolding status pending configurationWritten settle
+    || status (source true mask latch rising falling) (configurationWritten latch configuration true (pin level reference held edge)) || false) ≡ true
+unfolding status pending configurationWritten
 input-ends = taut 9 _ _ tt
 
 pub only-by-cause : (e : Happening) (s : OnePin) → statusOf s ≡ true → statusOf (after e s) ≡ false → Cause e s

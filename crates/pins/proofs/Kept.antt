@@ -19,9 +19,10 @@ unfolding status pending maskWritten
 masked-quiet = taut 8 _ _ tt
 
 turned-input : (configuration mask latch rising falling level reference held edge : Bool)
-    → cond configuration (status (source configuration mask latch rising falling) (pin level reference held edge)) false
-    ≡ status (source true mask latch rising falling) (configurationWritten configuration true (pin level reference held edge))
-unfolding status pending configurationWritten settle
+    → cond configuration (status (source configuration mask latch rising falling) (pin level reference held edge))
+    (status (source true mask latch rising falling) (configurationWritten latch configuration true (pin level reference held edge)))
+    ≡ status (source true mask latch rising falling) (configurationWritten latch configuration true (pin level reference held edge))
+unfolding status pending configurationWritten
 turned-input = taut 9 _ _ tt
 
 pub kept-one : (e : Happening) (s : OnePin) → statusAfter e s (statusOf s) ≡ statusOf (after e s)

@@ -99,13 +99,13 @@ latch-one : (configuration latch here on level reference held edge : Bool)
 unfolding only latchWritten
 latch-one = tautPin 8 _ _ tt
 
-configuration-one : (configuration here on level reference held edge : Bool)
-    → pin level
-    ((reference && not ((here && not (on && configuration)) && on)) || (level && ((here && not (on && configuration)) && on)))
-    (held && not (here && not (on && configuration))) (edge && not (here && not (on && configuration)))
-    ≡ only here (configurationWritten configuration on) (pin level reference held edge)
-unfolding only configurationWritten settle
-configuration-one = tautPin 7 _ _ tt
+configuration-one : (configuration latch here on level reference held edge : Bool)
+    → pin level reference
+    ((held && not (here && not (on && configuration))) || ((differs level reference && latch) && ((here && not (on && configuration)) && on)))
+    (edge && not (here && not (on && configuration)))
+    ≡ only here (configurationWritten latch configuration on) (pin level reference held edge)
+unfolding only configurationWritten
+configuration-one = tautPin 8 _ _ tt
 
 -- ---- the sets that are read off
 pub low-set : (all configuration output : ℕ) (portKind pinKind : Bool)
@@ -165,12 +165,13 @@ module _ (w : ℕ) (x : Sets) (d : Within w x) where
       ≡ mapPins w x (λ i. only (bit here i) (latchWritten (bit configuration i) (bit latch i) (bit on i)))
   latch-map configuration latch here on = mapped w x _ (search below depth 10) (λ i k. simp (bit-without, pinwise) (latch-one _ _ _ _ _ _ _ _))
 
-  pub configuration-map : (configuration here on : ℕ)
+  pub configuration-map : (configuration latch here on : ℕ)
       → (let quiet = without here (bitAnd on configuration) in
-      sets (x .level) (bitOr (without (x .reference) (bitAnd quiet on)) (bitAnd (x .level) (bitAnd quiet on))) (without (x .held) quiet) (without (x .edge) quiet))
-      ≡ mapPins w x (λ i. only (bit here i) (configurationWritten (bit configuration i) (bit on i)))
-  configuration-map configuration here on =
-      mapped w x _ (search below depth 10) (λ i k. simp (bit-without, pinwise) (configuration-one _ _ _ _ _ _ _))
+      sets (x .level) (x .reference)
+      (bitOr (without (x .held) quiet) (bitAnd (bitAnd (bitXor (x .level) (x .reference)) latch) (bitAnd quiet on))) (without (x .edge) quiet))
+      ≡ mapPins w x (λ i. only (bit here i) (configurationWritten (bit latch i) (bit configuration i) (bit on i)))
+  configuration-map configuration latch here on =
+      mapped w x _ (search below depth 10) (λ i k. simp (bit-without, pinwise) (configuration-one _ _ _ _ _ _ _ _))
 
   pub reset-map : sets (x .level) (x .level) 0 0 ≡ mapPins w x (λ i. reset)
   reset-map = mapped w x _ (search (below, pow-pos)) (λ i k. simp bit-zero (reset-one _ _ _ _))

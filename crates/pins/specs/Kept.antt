@@ -18,9 +18,9 @@ statusAfter (MaskWritten false) s kept = statusOf (after (MaskWritten false) s)
 -- another edge field or latch bit is another source: worked out anew
 statusAfter (EdgeWritten rising falling) s kept = statusOf (after (EdgeWritten rising falling) s)
 statusAfter (LatchWritten now) s kept = statusOf (after (LatchWritten now) s)
--- an output has none; a pin that turns to input starts quiet; one that was an input keeps it
+-- an output has none; of a pin that turns to input it is worked out anew; one that was an input keeps it
 statusAfter (ConfigurationWritten false) s kept = false
-statusAfter (ConfigurationWritten true) s kept = cond (s .registers .source .configuration) kept false
+statusAfter (ConfigurationWritten true) s kept = cond (s .registers .source .configuration) kept (statusOf (after (ConfigurationWritten true) s))
 -- nothing else writes it
 statusAfter (OutputWritten now) s kept = kept
 statusAfter (PolarityWritten now) s kept = kept

@@ -105,11 +105,12 @@ latchWritten true false true x = pin (x .level) (x .reference) (differs (x .leve
 latchWritten false false true x = pin (x .level) (x .reference) false (x .edge)
 latchWritten configuration true true x = x
 
--- Configuration written 0: held mark and edge mark to 0. From 0 to 1: the pin is settled, so it starts quiet. From 1 to 1: nothing.
-unfoldable pub configurationWritten : (was now : Bool) → Pin → Pin
-configurationWritten was false x = pin (x .level) (x .reference) false false
-configurationWritten false true x = settle x
-configurationWritten true true x = x
+-- Configuration written 0: held mark and edge mark to 0. From 0 to 1: the reference stays what it was, the edge mark is 0,
+-- and the held mark is 1 exactly if the latch bit is set and the level differs from the reference. From 1 to 1: nothing.
+unfoldable pub configurationWritten : (latch was now : Bool) → Pin → Pin
+configurationWritten latch was false x = pin (x .level) (x .reference) false false
+configurationWritten latch false true x = pin (x .level) (x .reference) (latch && differs (x .level) (x .reference)) false
+configurationWritten latch true true x = x
 
 -- Reset, of whatever kind: no events held, the reference set to the present level. The level stays.
 unfoldable pub reset : Pin → Pin

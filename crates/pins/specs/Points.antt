@@ -3,7 +3,7 @@ use mathlib.Core.Bool.{Bool, true, false, not, _&&_, _||_, Bool·beq}
 use mathlib.Core.List.{List, [], _∷_}
 use Rattle.pins.specs.Pin.{source, pin, isLow, isHigh}
 use Rattle.pins.specs.OnePin.{OnePin, Registers, Happening, registers, after, driveOf, inputOf, statusOf}
-use Rattle.pins.specs.OnePin.Happening.{LevelTo, InputFetched, MaskWritten, LatchWritten, PolarityWritten, Reset}
+use Rattle.pins.specs.OnePin.Happening.{LevelTo, InputFetched, ClearWritten, MaskWritten, LatchWritten, ConfigurationWritten, PolarityWritten, Reset}
 
 pub record Point : Type 0 where
   pub begins : OnePin
@@ -37,6 +37,10 @@ input latch rising falling = low (registers (source true false latch rising fall
 abbrev pub driver : (portKind pinKind : Bool) → OnePin
 driver portKind pinKind = low (registers (source false true false false false) true false portKind pinKind)
 
+-- an unmasked output with this latch bit and edge field
+abbrev pub output : (latch rising falling : Bool) → OnePin
+output latch rising falling = low (registers (source false false latch rising falling) true false false false)
+
 abbrev pub high : OnePin → Bool
 high s = isHigh (driveOf s)
 
@@ -66,6 +70,16 @@ points =
     ∷ point (input true false false) (PolarityWritten true ∷ []) statusOf false
     -- a level that was already away from the reference is held from the moment the latch bit is set
     ∷ point (input false false false) (LevelTo true ∷ LatchWritten true ∷ LevelTo false ∷ []) statusOf true
+    -- an output whose level moved, turned to input: latched it is held, also after the level returns; unlatched it is pending while the level differs
+    ∷ point (output true false false) (LevelTo true ∷ ConfigurationWritten true ∷ []) statusOf true
+    ∷ point (output true false false) (LevelTo true ∷ ConfigurationWritten true ∷ LevelTo false ∷ []) statusOf true
+    ∷ point (output false false false) (LevelTo true ∷ ConfigurationWritten true ∷ []) statusOf true
+    ∷ point (output false false false) (LevelTo true ∷ ConfigurationWritten true ∷ LevelTo false ∷ []) statusOf false
+    -- the level back before the turn, the port fetched or the pin cleared while it was an output, or an edge field: quiet
+    ∷ point (output true false false) (LevelTo true ∷ LevelTo false ∷ ConfigurationWritten true ∷ []) statusOf false
+    ∷ point (output true false false) (LevelTo true ∷ InputFetched ∷ ConfigurationWritten true ∷ []) statusOf false
+    ∷ point (output false false false) (LevelTo true ∷ ClearWritten true ∷ ConfigurationWritten true ∷ []) statusOf false
+    ∷ point (output true true true) (LevelTo true ∷ ConfigurationWritten true ∷ []) statusOf false
     -- the incident: a pin away from its reference, unmasked, is quiet after a reset though its level has not moved
     ∷ point (input false false false) (LevelTo true ∷ Reset ∷ MaskWritten false ∷ []) statusOf false
     ∷ point (input false false false) (LevelTo true ∷ Reset ∷ []) inputOf true

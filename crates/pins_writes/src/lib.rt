@@ -42,17 +42,18 @@ pub fn write_latch(mut x: Sets, configuration: u64, latch: u64, here: u64, on: u
     x
 }
 
-// The configuration bits of here, which were those of configuration, become those of on.
-pub fn write_configuration(x: Sets, configuration: u64, here: u64, on: u64) -> Sets
+// The configuration bits of here, which were those of configuration, become those of on. What turns to input is held anew.
+pub fn write_configuration(x: Sets, configuration: u64, latch: u64, here: u64, on: u64) -> Sets
     ensures { λ y. ⌜ ((w : ℕ) → Within w x
-        → y ≡ mapPins w x (λ i. only (bit here i) (configurationWritten (bit configuration i) (bit on i)))) ⌝ }
+        → y ≡ mapPins w x (λ i. only (bit here i) (configurationWritten (bit latch i) (bit configuration i) (bit on i)))) ⌝ }
 {
-    let quiet = here ^ (here & (on & configuration));
-    let turned = quiet & on;
+    let forgotten = here ^ (here & (on & configuration));
+    let turned = forgotten & on;
+    let moved = (x.level ^ x.reference) & latch;
     Sets {
         level: x.level,
-        reference: (x.reference ^ (x.reference & turned)) | (x.level & turned),
-        held: x.held ^ (x.held & quiet),
-        edge: x.edge ^ (x.edge & quiet),
+        reference: x.reference,
+        held: (x.held ^ (x.held & forgotten)) | (moved & turned),
+        edge: x.edge ^ (x.edge & forgotten),
     }
 }

@@ -199,7 +199,7 @@ input-again x was = go (x .registers .source .configuration) was
     v = x .registers .source
 
     go : (c : Bool) → c ≡ true
-        → status (source true (v .mask) (v .latch) (v .rising) (v .falling)) (configurationWritten c true (x .pin))
+        → status (source true (v .mask) (v .latch) (v .rising) (v .falling)) (configurationWritten (v .latch) c true (x .pin))
         ≡ status (source c (v .mask) (v .latch) (v .rising) (v .falling)) (x .pin)
     go true e = refl
     go false e = clash false e refl

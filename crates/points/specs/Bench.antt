@@ -97,6 +97,10 @@ alike output configuration portKinds pinKind =
 abbrev pub steppedFrom : ℕ → List Asked
 steppedFrom n = START ∷ toWrite 0 ∷ sent n ∷ sent 0x00 ∷ []
 
+-- pin 0 an unmasked output
+abbrev pub turned : List Asked
+turned = write 0x0c 0xfe ++ write 0x54 0xfe
+
 abbrev pub cases : List Case
 cases =
     -- configuration 0, output 1, port kind 0, pin kind 1: released; port kind 1 too: high
@@ -118,6 +122,15 @@ cases =
     -- rising field, latch 0, unmasked, 0, 1, 0: INT stays asserted; masked during it, unmasked after: quiet
     ∷ case (write 0x54 0xfe ++ (write 0x60 0x01 ++ (levels 1 ∷ levels 0 ∷ []))) intIs 1
     ∷ case (write 0x60 0x01 ++ (levels 1 ∷ levels 0 ∷ write 0x54 0xfe)) intIs 0
+    -- pin 0 an unmasked output whose level moved, then an input: latched INT is asserted, and still after the level returns; unlatched while the level differs
+    ∷ case (turned ++ (write 0x48 0x01 ++ (levels 1 ∷ write 0x0c 0xff))) intIs 1
+    ∷ case (turned ++ (write 0x48 0x01 ++ ((levels 1 ∷ write 0x0c 0xff) ++ (levels 0 ∷ [])))) intIs 1
+    ∷ case (turned ++ (levels 1 ∷ write 0x0c 0xff)) intIs 1
+    ∷ case (turned ++ ((levels 1 ∷ write 0x0c 0xff) ++ (levels 0 ∷ []))) intIs 0
+    -- the level back before the turn, or fetched while output: quiet; with an edge field: quiet
+    ∷ case (turned ++ (write 0x48 0x01 ++ (levels 1 ∷ levels 0 ∷ write 0x0c 0xff))) intIs 0
+    ∷ case (turned ++ (write 0x48 0x01 ++ ((levels 1 ∷ readOver 0 0x00 false) ++ write 0x0c 0xff))) intIs 0
+    ∷ case (turned ++ (write 0x60 0x03 ++ (levels 1 ∷ write 0x0c 0xff))) intIs 0
     -- what is kept of the interrupt: quiet at power-on, asserted as the pin leaves its reference, quiet once it is fetched, masked or reset
     ∷ case [] keptLineIs 1
     ∷ case (write 0x54 0xfe ++ (levels 1 ∷ [])) keptStatusIs 0x00_0001

@@ -71,10 +71,10 @@ fn write_configuration(words: &mut [u64; 28], here: u64, on: u64)
     ensures { λ r. ⌜ ((width : ℕ) → Within width (setsIn (now (words .entry))) → now (words .exit)
         ≡ withSets (mergedAt (now (words .entry)) 4 here on)
         (mapPins width (setsIn (now (words .entry)))
-        (λ i. only (bit here i) (configurationWritten (bit (getD (now (words .entry)) 4 0) i) (bit on i))))) ⌝ }
+        (λ i. only (bit here i) (configurationWritten (bit (getD (now (words .entry)) 5 0) i) (bit (getD (now (words .entry)) 4 0) i) (bit on i))))) ⌝ }
 {
     let x = words::sets_in(&*words);
-    let y = pins_writes::write_configuration(x, words[CONFIGURATION], here, on);
+    let y = pins_writes::write_configuration(x, words[CONFIGURATION], words[LATCH], here, on);
     put(words, CONFIGURATION, here, on);
     words::put_sets(words, y);
 }

@@ -4,7 +4,7 @@ use Rattle.pins_writes.proofs.write_configuration.Statement.{statement}
 use Rattle.pins_writes.proofs.write_configuration.Tie as tie
 
 returns : tie.Need-returns
-returns c = λ w d. configuration-map w _ d _ _ _
+returns c = λ w d. configuration-map w _ d _ _ _ _
 
 pub write-configuration-spec : {M : Type 1} → statement M
 write-configuration-spec = tie.close (tie.spec returns)

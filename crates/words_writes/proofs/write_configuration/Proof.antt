@@ -8,7 +8,7 @@ returns : tie.Need-returns
 returns c =
     let put = c .before .before in
     let written = put .before .before in
-    let sets = written .before .before in
+    let sets = written .before .before .before in
     λ width d. put-back _ width (sets .sets-in .ensures) (written .write-configuration .ensures width) (put .put .ensures) (c .put-sets .ensures) d
 
 pub write-configuration-spec : {M : Type 1} → statement M
@@ -16,6 +16,7 @@ write-configuration-spec =
     tie.close
     (tie.spec
     (λ c κs. search needs)
+    (λ c. search needs)
     (λ c. search needs)
     (λ c κs. search needs)
     (λ c κs. search needs)

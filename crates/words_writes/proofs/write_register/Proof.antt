@@ -37,7 +37,7 @@ returns c =
     let er = b .rule .ensures part n hn e in
     rule-moved part w fit n v _ hn hv er Configuration (c .before .before .match .keys1) refl refl refl refl (omega arith) refl _ _
     (b .before .before .port-pins .ensures part n hn e) (b .before .port-bits .ensures part n known e) (λ i. ConfigurationWritten (portBit v i)) (λ i. refl) _
-    (λ i x q. ap (λ (b : Bool). configurationWritten (bit (getD w 4 0) i) b q) x) (c .write-configuration .ensures (p .width) (within p (sound part) w fit))
+    (λ i x q. ap (λ (b : Bool). configurationWritten (bit (getD w 5 0) i) (bit (getD w 4 0) i) b q) x) (c .write-configuration .ensures (p .width) (within p (sound part) w fit))
 
 returns-2 : tie.Need-returns-2
 unfolding writtenTo pinAfter
