@@ -514,11 +514,13 @@ class Device:
             pin.held = self.is_input(i) and pin.level != pin.reference
 
     def configuration_written(self, i, old, new):
-        """An output has no marks; a pin that becomes an input starts quiet."""
+        """An output has no marks; a pin that becomes an input keeps its reference, and latched it holds what differs."""
+        pin = self.pins[i]
         if not new:
-            self.pins[i].held = self.pins[i].edge = False
+            pin.held = pin.edge = False
         elif not old:
-            self.settle(i)
+            pin.edge = False
+            pin.held = self.latched(i) and pin.level != pin.reference
 
     # What is kept: the status set and the line.
 

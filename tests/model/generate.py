@@ -27,15 +27,17 @@ MARK_READS = {'input port': 1, 'interrupt status': 4, 'input status': 4}
 # What an output drives and what it shows.
 OUTPUT_WRITES = {'output': 4, 'configuration': 4, 'output port kind': 3, 'pin output kind': 3, 'polarity': 2,
                  'input latch': 1, 'interrupt mask': 1}
-OUTPUT_READS = {'input port': 4, 'input status': 4, 'interrupt status': 1, 'output': 1}
+OUTPUT_READS = {'input port': 4, 'input status': 4, 'interrupt status': 1, 'output': 1, 'output port kind': 1}
 
 # Writes, reads, and the weights of a log's acts in the order of `Log.go_on`.
 TEMPERS = (
-    (MIXED_WRITES, MIXED_READS, (30, 5, 16, 20, 8, 6, 3, 3, 3, 1, 0.3)),
-    (MIXED_WRITES, MIXED_READS, (30, 5, 16, 20, 8, 6, 3, 3, 3, 1, 0.3)),
-    (MARK_WRITES, MARK_READS, (20, 20, 5, 20, 0.5, 0.3, 0.3, 0.3, 1, 1.5, 0.1)),
-    (MARK_WRITES, MARK_READS, (20, 20, 5, 20, 0.5, 0.3, 0.3, 0.3, 1, 1.5, 0.1)),
-    (OUTPUT_WRITES, OUTPUT_READS, (30, 0, 30, 15, 0.5, 0.3, 0.3, 0.3, 1, 0.3, 0.1)),
+    (MIXED_WRITES, MIXED_READS, (30, 5, 0.3, 16, 20, 10, 6, 3, 5, 3, 1, 0.3)),
+    (MIXED_WRITES, MIXED_READS, (30, 5, 0.3, 16, 20, 10, 6, 3, 5, 3, 1, 0.3)),
+    (MARK_WRITES, MARK_READS, (20, 20, 0.3, 5, 20, 0.5, 0.3, 0.3, 0.3, 1, 2.5, 0.1)),
+    (MARK_WRITES, MARK_READS, (20, 20, 0.3, 5, 20, 0.5, 0.3, 0.3, 0.3, 1, 2.5, 0.1)),
+    (OUTPUT_WRITES, OUTPUT_READS, (30, 0, 0.3, 30, 15, 0.5, 0.3, 0.3, 0.3, 1, 0.3, 0.1)),
+    # Mostly pins that turn from input to output and back.
+    (MARK_WRITES, MARK_READS, (2, 2, 20, 1, 2, 0.1, 0.1, 0.1, 0.1, 0.3, 0.3, 0.1)),
 )
 
 
@@ -86,6 +88,10 @@ class Log:
             self.levels_now = self.rng.randrange(SET_LIMIT)
         elif chance < 0.95:
             self.levels_now ^= 1 << self.rng.choice(self.focus)
+        self.lines.append('pins\t%06x' % self.levels_now)
+
+    def move(self, pin):
+        self.levels_now ^= 1 << pin
         self.lines.append('pins\t%06x' % self.levels_now)
 
     def register(self, group):
@@ -157,21 +163,54 @@ class Log:
         self.event('fetch\t%d' % self.rng.randrange(2))
 
     def hide_and_show(self):
-        """A pin moves and one of its registers is written twice: what was hidden must not come back."""
+        """A pin moves and one of its registers is written twice, or two are: what was hidden must not come back."""
         rng = self.rng
-        number = self.register(weighted_group(rng, MARK_WRITES))
+        numbers = [self.register(weighted_group(rng, MARK_WRITES)) for _ in range(2)]
+        if rng.random() < 0.6:
+            numbers[1] = numbers[0]
         for _ in range(rng.randrange(3)):
             self.levels()
-        for _ in range(2):
+        for number in numbers:
             self.start(0)
             self.event('byte\t%02x' % number)
             self.event('byte\t%02x' % self.value(number))
-            if rng.random() < 0.4:
+            if rng.random() < 0.6:
                 self.look(NAMED['interrupt status'])
             if rng.random() < 0.3:
                 self.levels()
         if rng.random() < 0.3:
             self.look(weighted_group(rng, MARK_READS))
+
+    def write_pin(self, name, pin, bits):
+        """A write to the register of the group that holds the pin, with these bits for it."""
+        group = NAMED[name]
+        step, place, all_bits = (pin // 4, 2 * (pin % 4), 3) if name == 'interrupt edge' else (pin // 8, pin % 8, 1)
+        number = group.first + step
+        self.start(0)
+        self.event('byte\t%02x' % number)
+        self.event('byte\t%02x' % (self.value(number) & ~(all_bits << place) | bits << place))
+
+    def turn_around(self):
+        """A pin is an output for a while: what happens to it then shows when it is an input again."""
+        rng = self.rng
+        pin = rng.choice(self.focus)
+        self.write_pin('configuration', pin, 0)
+        meanwhile = (
+            lambda: self.move(pin), lambda: self.look(NAMED['input port']),
+            lambda: self.write_pin('interrupt clear', pin, 1),
+            lambda: self.write_pin('input latch', pin, rng.choice((0, 1, 1))),
+            lambda: self.write_pin('interrupt mask', pin, rng.randrange(2)),
+            lambda: self.write_pin('interrupt edge', pin, rng.randrange(4)))
+        happens = rng.choices(meanwhile, (1, 1, 1, 4, 3, 3), k=rng.randint(0, 3))
+        happens.insert(rng.randint(0, len(happens)), lambda: self.move(pin))
+        for act in happens:
+            act()
+        self.write_pin('configuration', pin, 1)
+        # Unmasked, without a field, back where it was: each shows something else of what is held.
+        after = (lambda: self.write_pin('interrupt mask', pin, 0), lambda: self.write_pin('interrupt edge', pin, 0),
+                 lambda: self.move(pin))
+        for act in rng.sample(after, rng.randint(0, 3)):
+            act()
 
     def read_back(self):
         """Any register written and read again, perhaps with a reset between."""
@@ -261,8 +300,8 @@ class Log:
 
     def go_on(self, length, weights):
         """Acts by chance until the log has so many lines; what an act left in the status is looked at now and then."""
-        acts = (self.write, self.hide_and_show, self.read, self.levels, self.read_back, self.general_call, self.stray,
-                self.other_address, self.garbage, self.hard_reset, self.device)
+        acts = (self.write, self.hide_and_show, self.turn_around, self.read, self.levels, self.read_back,
+                self.general_call, self.stray, self.other_address, self.garbage, self.hard_reset, self.device)
         while len(self.lines) < length:
             self.rng.choices(acts, weights)[0]()
             if self.rng.random() < 0.3:
@@ -270,7 +309,7 @@ class Log:
 
 
 def trace_log(rng, alone=False):
-    """A log of some 60 to 300 lines; alone, it may begin before a device, be empty, or lack its last newline."""
+    """A log of some 60 to 350 lines; alone, it may begin before a device, be empty, or lack its last newline."""
     log = Log(rng)
     if alone:
         if rng.random() < 0.1:
@@ -284,7 +323,7 @@ def trace_log(rng, alone=False):
     log.device()
     if rng.random() < 0.8:
         log.setting_up()
-    length = rng.choice((60, 180, 240, 290))
+    length = rng.choice((60, 200, 260, 340))
     log.go_on(length, log.weights)
     end = '' if alone and rng.random() < 0.6 else '\n'
     return ('\n'.join(log.lines) + end).encode('latin-1')

@@ -1,7 +1,7 @@
 """One-rule mutants of the model, and which only images, views or bursts can show; try_mutants.py tries them."""
 
 from device import (ARMED, ASSERTED, BYTE, CALL, CHOSEN, DEAF, EVENT_BYTES, FETCH, FILLING, GROUPS, IDLE, LEVELS,
-                    MOST_EVENTS, OPENED, PINS, PORT_KIND, QUIET, SENDING, SET_LIMIT, Device, number_map, pin_set)
+                    MOST_EVENTS, OPENED, PINS, PORT_KIND, QUIET, SENDING, SET_LIMIT, Device, Pin, number_map, pin_set)
 
 # Name of a mutant that no output can tell from the model, and why.
 SURVIVORS = {}
@@ -12,9 +12,9 @@ SURVIVORS = {}
 ONLY_BY_IMAGES = frozenset('''
     status_is_stored input_status_is_stored input_port_is_stored
     OutputShowsHeld HeldShowsWithoutLatch EdgeCountsWithoutField
-    HeldComparesOldLevel HeldOnOutputs HeldWithoutLatch HeldOnlyOnChange EdgeOnOutputs OutputReferenceFollows
-    ClearBitInputsOnly LatchOffKeepsHeld LatchOffOnlyFromOne LatchOnOrsHeld LatchOnHoldsOutputs LatchOnKeepsOutputsHeld
-    OutputKeepsHeld OutputKeepsEdge OutputClearsOnlyOnce OutputSettles
+    HeldComparesOldLevel HeldOnOutputs HeldWithoutLatch HeldOnlyOnChange EdgeOnOutputs
+    LatchOffKeepsHeld LatchOffOnlyFromOne LatchOnOrsHeld LatchOnHoldsOutputs LatchOnKeepsOutputsHeld
+    OutputKeepsHeld OutputKeepsEdge OutputClearsOnlyOnce TurnOrsHeld TurnHoldsWithoutLatch TurnKeepsEdge
     ResetKeepsHeld ResetDeafens LastFetchGoesIdle IdleByteDeafens
     KindSixPasses KindLowByteOnly ByteLimitOneMore FetchLimitOneMore LevelsLimitOneMore ArgumentLowWordOnly
     StartChecksArgument ResetChecksArgument KindBeforeImage ArgumentBeforeImage
@@ -635,6 +635,12 @@ class FetchSettlesFirst(Device):
 
 
 @mutant
+class FetchSettlesInputsOnly(Device):
+    def settled_by_fetch(self, number, acknowledged):
+        return [i for i in super().settled_by_fetch(number, acknowledged) if self.is_input(i)]
+
+
+@mutant
 class FetchSettlesPending(Device):
     def settled_by_fetch(self, number, acknowledged):
         return [i for i in super().settled_by_fetch(number, acknowledged) if self.status_bit(i)]
@@ -873,25 +879,117 @@ class OutputSettles(Device):
             self.settle(i)
 
 
-@mutant
-class InputIsNotSettled(Device):
-    def configuration_written(self, i, old, new):
-        if not new:
-            super().configuration_written(i, old, new)
+class Turned(Device):
+    """What its mutants do beside the rule to a pin that turns from output to input."""
 
-
-@mutant
-class InputKeepsReference(Device):
     def configuration_written(self, i, old, new):
-        reference = self.pins[i].reference
+        before = Pin(*(getattr(self.pins[i], name) for name in Pin.__slots__))
         super().configuration_written(i, old, new)
-        self.pins[i].reference = reference
+        if new and not old:
+            self.turned(i, before, self.pins[i])
+
+
+@mutant
+class TurnSettles(Turned):
+    def turned(self, i, before, pin):
+        self.settle(i)
+
+
+@mutant
+class TurnSettlesMasked(Turned):
+    def turned(self, i, before, pin):
+        if self.masked(i):
+            self.settle(i)
+
+
+@mutant
+class TurnTakesReference(Turned):
+    def turned(self, i, before, pin):
+        pin.reference = pin.level
+
+
+@mutant
+class TurnTakesOutputBit(Turned):
+    def turned(self, i, before, pin):
+        pin.reference = self.bit(0x04, i)
+
+
+@mutant
+class TurnHoldsNothing(Turned):
+    def turned(self, i, before, pin):
+        pin.held = False
+
+
+@mutant
+class TurnKeepsHeld(Turned):
+    def turned(self, i, before, pin):
+        pin.held = before.held
+
+
+@mutant
+class TurnOrsHeld(Turned):
+    def turned(self, i, before, pin):
+        pin.held = pin.held or before.held
+
+
+@mutant
+class TurnHoldsWithoutLatch(Turned):
+    def turned(self, i, before, pin):
+        pin.held = pin.level != pin.reference
+
+
+@mutant
+class TurnHoldsWithoutDifference(Turned):
+    def turned(self, i, before, pin):
+        pin.held = self.latched(i)
+
+
+@mutant
+class TurnHoldsOnlyUnmasked(Turned):
+    def turned(self, i, before, pin):
+        pin.held = pin.held and not self.masked(i)
+
+
+@mutant
+class TurnHoldsNotWithField(Turned):
+    def turned(self, i, before, pin):
+        pin.held = pin.held and self.field(i) == 0
+
+
+@mutant
+class TurnKeepsEdge(Turned):
+    def turned(self, i, before, pin):
+        pin.edge = before.edge
+
+
+@mutant
+class TurnMarksEdge(Turned):
+    def turned(self, i, before, pin):
+        pin.edge = not self.masked(i) and self.change_matches(self.field(i), pin.reference, pin.level)
 
 
 @mutant
 class InputAgainSettles(Device):
     def configuration_written(self, i, old, new):
-        super().configuration_written(i, 0, new)
+        super().configuration_written(i, old, new)
+        if old and new:
+            self.settle(i)
+
+
+@mutant
+class InputAgainHoldsAnew(Device):
+    def configuration_written(self, i, old, new):
+        super().configuration_written(i, old, new)
+        if old and new:
+            self.pins[i].held = self.latched(i) and self.pins[i].level != self.pins[i].reference
+
+
+@mutant
+class InputAgainForgetsEdge(Device):
+    def configuration_written(self, i, old, new):
+        super().configuration_written(i, old, new)
+        if old and new:
+            self.pins[i].edge = False
 
 
 # Resets.

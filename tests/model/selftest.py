@@ -3,6 +3,7 @@
 import random
 import sys
 import time
+from pathlib import Path
 
 import bursts
 import generate
@@ -12,6 +13,8 @@ import trace
 import views
 from device import (ARMED, ASSERTED, BYTE, CALL, DEAF, FETCH, FILLING, GROUPS, IDLE, LEVELS, OPENED, PINS, QUIET, RESET,
                     SENDING, SET_LIMIT, START, STOP, TEN, Device, kept_image, pin_set)
+
+EXAMPLES = Path(__file__).resolve().parents[2] / 'examples'
 
 EXAMPLE_IN = b'device\t2\t000000\nstart\nbyte\t44\nbyte\t54\nbyte\tfe\npins\t000001\n'
 EXAMPLE_OUT = (b'answer\tint\tlow\thigh\n'
@@ -57,6 +60,13 @@ class Bench:
 def test_worked_example():
     assert trace.run_log(EXAMPLE_IN) == EXAMPLE_OUT
     assert trace.run_log(EXAMPLE_IN[:-1]) == EXAMPLE_OUT
+
+
+def test_shipped_logs():
+    logs = sorted(EXAMPLES.glob('*.trace'))
+    assert logs
+    for log in logs:
+        assert trace.run_log(log.read_bytes()) == log.with_suffix('.answers').read_bytes(), log.name
 
 
 def test_trace_reader():
@@ -204,18 +214,96 @@ def test_polarity_is_not_an_event():
 
 
 def test_configuration():
+    """Pins 0 and 1 ring, are quiet as outputs, and ring again as inputs: 0 while it differs, 1 is latched."""
     bench = Bench()
     bench.write(0x54, 0xFC)
     bench.write(0x48, 0x02)
     bench.pins(3)
     assert bench.read(0x58) == 0x03
     bench.write(0x0C, 0xFC)
-    assert bench.quiet()
+    assert bench.quiet() and bench.device.image().held == 0
     bench.pins(0)
     bench.pins(3)
     bench.write(0x0C, 0xFF)
-    assert bench.quiet() and bench.device.image().reference == 3
-    assert bench.read(0x00) == 0x03
+    image = bench.device.image()
+    assert (image.status, image.reference, image.held, image.edge) == (3, 0, 2, 0)
+    bench.pins(0)
+    assert bench.read(0x58) == 0x02 and bench.read(0x00) == 0x02 and bench.quiet()
+    assert bench.read(0x00) == 0x00
+
+
+def turned(*acts, latch=0, field=0):
+    """A bench whose pin 0, at level 0 and unmasked, was an output, whose level went to 1, and is an input again.
+
+    While it was an output, the acts happened after that: a write is a pair, levels a number, a fetch of port 0 None.
+    """
+    bench = Bench()
+    bench.write(0x54, 0xFE)
+    bench.write(0x48, latch)
+    bench.write(0x60, field)
+    bench.write(0x0C, 0xFE)
+    bench.pins(1)
+    for act in acts:
+        if act is None:
+            bench.read(0x00)
+        elif isinstance(act, int):
+            bench.pins(act)
+        else:
+            bench.write(*act)
+    assert bench.quiet()
+    bench.write(0x0C, 0xFF)
+    return bench
+
+
+def test_output_turned_to_input():
+    for bench, latched in ((turned(), False), (turned(latch=1), True), (turned((0x48, 0x01)), True),
+                           (turned((0x48, 0x00), latch=1), False), (turned((0x68, 0xFE)), False),
+                           (turned(0, 1, latch=1), True)):
+        assert not bench.quiet() and bench.device.image().reference == 0
+        assert bench.read(0x6C) == 0x01 and bench.read(0x58) == 0x01
+        bench.pins(0)
+        assert bench.quiet() == (not latched)
+        assert bench.read(0x6C) == (0x01 if latched else 0x00)
+        bench.read(0x00)
+        assert bench.quiet()
+    for latch in (0, 1):
+        # Back before the turn, fetched or cleared as an output, or with an edge field: nothing rings.
+        for bench in (turned(0, latch=latch), turned(None, latch=latch), turned((0x68, 0x01), latch=latch),
+                      turned(latch=latch, field=1), turned(latch=latch, field=2), turned(latch=latch, field=3)):
+            assert bench.quiet() and bench.read(0x58) == 0x00
+        # Fetched as an output, its reference is the level of then, until a reset.
+        bench = turned(None, 0, latch=latch)
+        assert not bench.quiet() and bench.device.image().reference == 1
+        bench.device.step(RESET, 0)
+        assert bench.quiet() and bench.device.image().reference == 0
+        # With a field the difference is held all the same, and rings once the field is 00.
+        bench = turned(latch=latch, field=1)
+        bench.write(0x60, 0x00)
+        assert not bench.quiet()
+        # Masked, turned, cleared, unmasked: the host's way to stay quiet.
+        bench = turned((0x54, 0xFF), latch=latch)
+        assert bench.quiet()
+        bench.write(0x68, 0x01)
+        bench.write(0x54, 0xFE)
+        assert bench.quiet()
+        bench = turned((0x54, 0xFF), latch=latch)
+        bench.write(0x54, 0xFE)
+        assert not bench.quiet()
+
+
+def test_input_stays_input():
+    """Configuration 1 to 1 keeps every mark: pin 0 is held, pin 1 has its edge."""
+    bench = Bench()
+    bench.write(0x54, 0xFC)
+    bench.write(0x48, 0x01)
+    bench.write(0x60, 0x04)
+    bench.pins(3)
+    bench.pins(0)
+    before = bench.device.image()
+    assert (before.status, before.held, before.edge) == (3, 1, 2)
+    bench.write(0x0C, 0xFF)
+    after = bench.device.image()
+    assert (after.status, after.held, after.edge, after.reference) == (3, 1, 2, 0)
 
 
 def test_limits():
@@ -649,7 +737,7 @@ def test_generators():
     rng = random.Random(5)
     for _ in range(30):
         log = generate.trace_log(rng)
-        assert log.startswith(b'device\t') and log.endswith(b'\n') and 60 <= log.count(b'\n') <= 340
+        assert log.startswith(b'device\t') and log.endswith(b'\n') and 60 <= log.count(b'\n') <= 400
     assert generate.trace_log(random.Random(6)) == generate.trace_log(random.Random(6))
     for _ in range(300):
         assert all(judge.well_formed(end) for end in generate.setting_pair(rng))

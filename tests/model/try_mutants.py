@@ -16,7 +16,7 @@ from device import Device
 from mutants import MUTANTS, ONLY_BY_BURSTS, ONLY_BY_IMAGES, ONLY_BY_VIEWS, SURVIVORS
 from trace import answers, read_log
 
-TRACES = 250
+TRACES = 300
 FURTHER_TRACES = 750
 IMAGE_LINES = 6000
 VIEW_LINES = 3000
@@ -100,7 +100,7 @@ def main(seed, everything):
         (by_trace if traced else by_image if imaged else alive).append(name)
         if listed and not imaged:
             wrong.append('%s: no image tells it' % name)
-        # One log in fifty tells the rarest of the others, so that one seed in a hundred asks for more logs than these.
+        # One log in sixty tells the rarest of the others, so that one seed in a hundred asks for more logs than these.
         if imaged and not listed and not trace_cases(random.Random('further %d' % seed), FURTHER_TRACES).tell(cls):
             wrong.append('%s: no log tells it' % name)
     print('seed %d: %d mutants, %d caught by traces, only by images %d, by views %d, by bursts %d, %d survive, %.1f s' % (
