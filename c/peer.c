@@ -146,11 +146,12 @@ OUT_OF_LINE void reset(struct peer *d)
     settle(d, ALL_PINS);
 }
 
+/* A pin that turns to input keeps its reference, and holds what differs from it if it is latched. */
 static void write_configuration(struct peer *d, uint64_t outputs, uint64_t new_inputs)
 {
-    d->held &= ~outputs;
-    d->edge &= ~outputs;
-    settle(d, new_inputs);
+    uint64_t pending = pins_at(d, LATCH) & (d->level ^ d->reference);
+    d->held = (d->held & ~outputs & ~new_inputs) | (pending & new_inputs);
+    d->edge &= ~outputs & ~new_inputs;
 }
 
 static void write_latch(struct peer *d, uint64_t unlatched, uint64_t new_latched)

@@ -4,8 +4,9 @@
 #include "images.h"
 #include "master.h"
 
-enum { OUTPUT = 0x04, CONFIGURATION = 0x0C, LATCH = 0x48, MASK = 0x54, PORT_KIND = 0x5C, EDGE = 0x60, PIN_KIND = 0x70 };
-enum { PIN_0 = 0x01, ALL_BUT_PIN_0 = 0xFE, RISING = 0x01 };
+enum { INPUT = 0x00, OUTPUT = 0x04, CONFIGURATION = 0x0C, LATCH = 0x48, MASK = 0x54 };
+enum { PORT_KIND = 0x5C, EDGE = 0x60, CLEAR = 0x68, PIN_KIND = 0x70 };
+enum { PIN_0 = 0x01, ALL_BUT_PIN_0 = 0xFE, WHOLE_PORT = 0xFF, RISING = 0x01, EITHER = 0x03 };
 
 static void worked_example(void)
 {
@@ -81,8 +82,8 @@ static void interrupt_points(void)
     write_register(&device, LATCH, PIN_0);
     rise_and_fall(&device);
     want("INT", 1, int_of(&device));
-    want("first fetch", 1, read_register(&device, 0x00));
-    want("next fetch", 0, read_register(&device, 0x00));
+    want("first fetch", 1, read_register(&device, INPUT));
+    want("next fetch", 0, read_register(&device, INPUT));
     want("INT after the fetches", 0, int_of(&device));
 
     about("unlatched pin 0, 1, 0", 0);
@@ -109,6 +110,118 @@ static void edge_points(void)
     rise_and_fall(&device);
     write_register(&device, MASK, ALL_BUT_PIN_0);
     want("INT", 0, int_of(&device));
+}
+
+/* Pin 0 is unmasked and an output, and its level has left its reference. */
+static struct ghixramel moved_output(uint32_t latch, uint32_t field)
+{
+    struct ghixramel device = device_with(0, 0);
+    write_register(&device, MASK, ALL_BUT_PIN_0);
+    write_register(&device, LATCH, latch);
+    write_register(&device, EDGE, field);
+    write_register(&device, CONFIGURATION, ALL_BUT_PIN_0);
+    set_levels(&device, PIN_0);
+    want("INT while it is an output", 0, int_of(&device));
+    return device;
+}
+
+static void want_turned(struct ghixramel *device, uint32_t asserted, uint64_t reference, uint64_t held)
+{
+    write_register(device, CONFIGURATION, WHOLE_PORT);
+    struct ghixramel_image image = image_of(device);
+    want("INT once it is an input", asserted, int_of(device));
+    want("status", asserted ? PIN_0 : 0, image.status);
+    want("reference", reference, image.pins[1]);
+    want("held", held, image.pins[2]);
+    want("edge", 0, image.pins[3]);
+}
+
+static void ringing_turns(void)
+{
+    about("unlatched output turned to input away from its reference", 0);
+    struct ghixramel device = moved_output(0, 0);
+    want_turned(&device, 1, 0, 0);
+    set_levels(&device, 0);
+    want("INT when the level is back", 0, int_of(&device));
+
+    about("latched output turned to input away from its reference", 0);
+    device = moved_output(PIN_0, 0);
+    want_turned(&device, 1, 0, PIN_0);
+    set_levels(&device, 0);
+    want("INT when the level is back", 1, int_of(&device));
+    want("fetch", 1, read_register(&device, INPUT));
+    want("INT after the fetch", 0, int_of(&device));
+
+    about("output latched while it is one, turned to input away from its reference", 0);
+    device = moved_output(0, 0);
+    write_register(&device, LATCH, PIN_0);
+    want("held while it is an output", 0, image_of(&device).pins[2]);
+    want_turned(&device, 1, 0, PIN_0);
+}
+
+static void quiet_turns(uint32_t latch)
+{
+    about("level back before the turn to input, latch", latch);
+    struct ghixramel device = moved_output(latch, 0);
+    set_levels(&device, 0);
+    want_turned(&device, 0, 0, 0);
+
+    about("output fetched before the turn to input, latch", latch);
+    device = moved_output(latch, 0);
+    read_register(&device, INPUT);
+    want_turned(&device, 0, PIN_0, 0);
+
+    about("output cleared before the turn to input, latch", latch);
+    device = moved_output(latch, 0);
+    write_register(&device, CLEAR, PIN_0);
+    want_turned(&device, 0, PIN_0, 0);
+
+    for (uint32_t field = RISING; field <= EITHER; field++) {
+        about("output with an edge field turned to input, field", field);
+        device = moved_output(latch, field);
+        want_turned(&device, 0, 0, latch);
+    }
+
+    about("masked, turned to input, cleared, unmasked, latch", latch);
+    device = moved_output(latch, 0);
+    write_register(&device, MASK, WHOLE_PORT);
+    want_turned(&device, 0, 0, latch);
+    write_register(&device, CLEAR, PIN_0);
+    write_register(&device, MASK, ALL_BUT_PIN_0);
+    want("INT", 0, int_of(&device));
+}
+
+/* Marks that an output has in an image alone. */
+static void marked_output(uint32_t latch, uint32_t field)
+{
+    struct ghixramel_image image = power_on_image(0, 0);
+    image.registers[CONFIGURATION] = image.registers[MASK] = ALL_BUT_PIN_0;
+    image.registers[LATCH] = (uint8_t)latch;
+    image.registers[EDGE] = (uint8_t)field;
+    image.pins[2] = image.pins[3] = PIN_0;
+    about("output with marks turned to input, field", field);
+    struct ghixramel device = device_from(&image);
+    want_turned(&device, 0, 0, 0);
+}
+
+static void input_written_again(void)
+{
+    about("input written as one again", 0);
+    struct ghixramel device = device_with(0, 0);
+    write_register(&device, MASK, ALL_BUT_PIN_0);
+    write_register(&device, LATCH, PIN_0);
+    rise_and_fall(&device);
+    want_turned(&device, 1, 0, PIN_0);
+}
+
+static void direction_points(void)
+{
+    ringing_turns();
+    quiet_turns(0);
+    quiet_turns(PIN_0);
+    marked_output(0, RISING);
+    marked_output(PIN_0, 0);
+    input_written_again();
 }
 
 static struct ghixramel armed_device(void)
@@ -163,6 +276,7 @@ void check_points(void)
     pointer_points();
     interrupt_points();
     edge_points();
+    direction_points();
     reset_points();
     command_points();
 }
