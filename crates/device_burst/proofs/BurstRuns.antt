@@ -15,6 +15,7 @@ use Rattle.device_rules.specs.Answers.{answerKind, refusalNumber}
 use Rattle.device_rules.specs.declared.Answer.{Answer}
 use Rattle.device_rules.specs.declared.Answer.the-variants.{Nothing}
 use Rattle.device_demands.specs.Run.{Asked, after, answers}
+use Rattle.device_demands.proofs.Lawful.{lawful24}
 use Rattle.device_demands.proofs.Keeps.{WellFormed, image-of, stepped-keeps, power-on-fits}
 use Rattle.device_demands.proofs.Runs.{image-kept}
 use Rattle.words_burst.specs.Burst.{Sent, one, Ran, ended, onto, twoOf, ran}
@@ -64,20 +65,20 @@ module _ (p : Part) where
       go false k d = answered-here s e es (answers p (x .after) es) k (ran p (x .after) (sentAs es)) d
 
 -- ---- from power-on
-one-keeps : (s : State) → WellFormed s → (e : Sent) → WellFormed (one part24 s e .after)
+one-keeps : (s : State) → WellFormed part24 s → (e : Sent) → WellFormed part24 (one part24 s e .after)
 unfolding one
-one-keeps s g e = either-arm (λ (o : Outcome). WellFormed (o .after)) (eqb (e .third) 0) (stepped-keeps s g (e .kind) (e .arg)) g
+one-keeps s g e = either-arm (λ (o : Outcome). WellFormed part24 (o .after)) (eqb (e .third) 0) (stepped-keeps part24 lawful24 s g (e .kind) (e .arg)) g
 
-one-unbroken : (s : State) → WellFormed s → (e : Sent) → eqb (refusalNumber (one part24 s e .answer)) 3 ≡ false
+one-unbroken : (s : State) → WellFormed part24 s → (e : Sent) → eqb (refusalNumber (one part24 s e .answer)) 3 ≡ false
 unfolding one
 one-unbroken s g e =
-    either-arm (λ (o : Outcome). eqb (refusalNumber (o .answer)) 3 ≡ false) (eqb (e .third) 0) (image-kept s g (e .kind) (e .arg)) (simp (image-of s (g .sound)) (some (leb (e .kind) 5)))
+    either-arm (λ (o : Outcome). eqb (refusalNumber (o .answer)) 3 ≡ false) (eqb (e .third) 0) (image-kept part24 s g (e .kind) (e .arg)) (simp (image-of part24 s (g .sound)) (some (leb (e .kind) 5)))
   where
     some : (k : Bool) → eqb (cond k 2 1) 3 ≡ false
     some true = refl
     some false = refl
 
-ran-unbroken : (s : State) → WellFormed s → (es : List Sent) → eqb (ran part24 s es .number) 3 ≡ false
+ran-unbroken : (s : State) → WellFormed part24 s → (es : List Sent) → eqb (ran part24 s es .number) 3 ≡ false
 unfolding ran
 ran-unbroken s g [] = refl
 ran-unbroken s g (e ∷ es) =
@@ -85,4 +86,4 @@ ran-unbroken s g (e ∷ es) =
 
 -- no burst from power-on is refused with 3
 pub never-3 : (choice levels : ℕ) → choice < 4 → levels < 2 ^ 24 → (es : List Sent) → eqb (ran part24 (powerOn part24 choice levels) es .number) 3 ≡ false
-never-3 choice levels hc hl = ran-unbroken (powerOn part24 choice levels) (power-on-fits choice levels hc hl)
+never-3 choice levels hc hl = ran-unbroken (powerOn part24 choice levels) (power-on-fits part24 lawful24 choice levels hc hl)

@@ -1,4 +1,4 @@
--- Every event on the device is, at every pin, what happens to that one pin. Assumes nothing.
+-- Every event on the device of a lawful part is, at every pin, what happens to that one pin. Assumes nothing.
 use mathlib.Core.Path.{_≡_, refl, ap}
 use mathlib.Core.Bool.{Bool, true, false, cond}
 use Prim.Native.Nat.{ℕ, _+_, _<_}
@@ -7,18 +7,18 @@ use lib.ListN.{length}
 use Rattle.bits.proofs.Decide.{either-arm}
 use Rattle.pins.specs.OnePin.{OnePin, after, registersAfter, pinAfter}
 use Rattle.pins.specs.OnePin.Happening.{Reset, Elsewhere}
-use Rattle.map.specs.Map.{part24, reserved}
+use Rattle.map.specs.Map.{Part, reserved}
 use Rattle.registers.specs.Registers.{Core, onePin}
-use Rattle.registers.proofs.Pinwise.{mapped24}
 use Rattle.registers.proofs.Written.{write-pin, fetch-pin, level-pin, reset-pin}
 use Rattle.device_rules.specs.Device.{State, Event, Bus, Outcome, busAt, number, goes, addressByte, byteIn, fetchIn, resetted, step}
 use Rattle.device_rules.specs.Device.Bus.{Idle, Opened, Chosen, Filling, Sending, Call, Armed, Deaf}
 use Rattle.device_rules.specs.Device.Event.{Start, Stop, HardwareReset, ByteSent, ByteFetched, Levels}
 use Rattle.device_demands.specs.Happens.{sentIn, fetchedIn, happensTo}
+use Rattle.device_demands.proofs.Lawful.{Lawful}
 
-module _ (s : State) (i : ℕ) (hi : i < 24) where
+module _ (p : Part) (ok : Lawful p) (s : State) (i : ℕ) (hi : i < p .width) where
   abbrev P : Core → OnePin
-  P r = onePin part24 r i
+  P r = onePin p r i
 
   abbrev Same : Outcome → Type 0
   Same o = o .after .regs ≡ s .regs
@@ -28,28 +28,28 @@ module _ (s : State) (i : ℕ) (hi : i < 24) where
   unfolding registersAfter pinAfter
   stays e = ap P e
 
-  reset : P (resetted part24 s .regs) ≡ after Reset (P (s .regs))
+  reset : P (resetted p s .regs) ≡ after Reset (P (s .regs))
   unfolding resetted
-  reset = reset-pin part24 (s .regs) i hi mapped24
+  reset = reset-pin p (s .regs) i hi (ok .mapped)
 
   byte-pin : length (s .regs .file) ≡ 128 → s .pointer < 128 → (k : Bus) (b : ℕ)
-      → P (byteIn part24 k s b .after .regs) ≡ after (sentIn part24 k s b i) (P (s .regs))
+      → P (byteIn p k s b .after .regs) ≡ after (sentIn p k s b i) (P (s .regs))
   unfolding byteIn sentIn
   byte-pin full hn Idle b = stays refl
   byte-pin full hn Opened b =
       stays (either-arm Same (eqb b (addressByte s)) refl
       (either-arm Same (eqb b (addressByte s + 1)) refl (either-arm Same (eqb b 0x00) refl refl)))
-  byte-pin full hn Chosen b = stays (either-arm Same (reserved part24 b) refl refl)
-  byte-pin full hn Filling b = write-pin part24 (s .regs) i hi mapped24 full (s .pointer) hn b
+  byte-pin full hn Chosen b = stays (either-arm Same (reserved p b) refl refl)
+  byte-pin full hn Filling b = write-pin p (s .regs) i hi (ok .mapped) full (s .pointer) hn b
   byte-pin full hn Sending b = stays refl
   byte-pin full hn Call b = stays (either-arm Same (eqb b 0x06) refl refl)
   byte-pin full hn Armed b = stays refl
   byte-pin full hn Deaf b = stays refl
 
-  sent-back : (k : Bus) (acknowledged : Bool) → P (fetchIn part24 k s acknowledged .after .regs) ≡ after (fetchedIn part24 k s i) (P (s .regs))
+  sent-back : (k : Bus) (acknowledged : Bool) → P (fetchIn p k s acknowledged .after .regs) ≡ after (fetchedIn p k s i) (P (s .regs))
   unfolding fetchIn fetchedIn
-  sent-back Sending true = fetch-pin part24 (s .regs) i hi (s .pointer)
-  sent-back Sending false = fetch-pin part24 (s .regs) i hi (s .pointer)
+  sent-back Sending true = fetch-pin p (s .regs) i hi (s .pointer)
+  sent-back Sending false = fetch-pin p (s .regs) i hi (s .pointer)
   sent-back Idle acknowledged = stays refl
   sent-back Opened acknowledged = stays refl
   sent-back Chosen acknowledged = stays refl
@@ -58,16 +58,16 @@ module _ (s : State) (i : ℕ) (hi : i < 24) where
   sent-back Armed acknowledged = stays refl
   sent-back Deaf acknowledged = stays refl
 
-  stop-pin : (armed : Bool) → P (cond armed (resetted part24 s) (goes s Idle) .regs) ≡ after (cond armed Reset Elsewhere) (P (s .regs))
+  stop-pin : (armed : Bool) → P (cond armed (resetted p s) (goes s Idle) .regs) ≡ after (cond armed Reset Elsewhere) (P (s .regs))
   stop-pin true = reset
   stop-pin false = stays refl
 
   pub as-one-pin : length (s .regs .file) ≡ 128 → s .pointer < 128 → (e : Event)
-      → P (step part24 s e .after .regs) ≡ after (happensTo part24 s e i) (P (s .regs))
+      → P (step p s e .after .regs) ≡ after (happensTo p s e i) (P (s .regs))
   unfolding step happensTo
   as-one-pin full hn Start = stays refl
   as-one-pin full hn Stop = stop-pin (eqb (s .bus) (number Armed))
   as-one-pin full hn HardwareReset = reset
   as-one-pin full hn (ByteSent b) = byte-pin full hn (busAt (s .bus)) b
   as-one-pin full hn (ByteFetched acknowledged) = sent-back (busAt (s .bus)) acknowledged
-  as-one-pin full hn (Levels new) = level-pin part24 (s .regs) i hi new
+  as-one-pin full hn (Levels new) = level-pin p (s .regs) i hi new

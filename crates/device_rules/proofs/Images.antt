@@ -1,4 +1,4 @@
--- Images that fit, and what an event given by its kind and argument is. Assumes nothing.
+-- Images that fit, and what an event given by its kind and argument is: for every part. Assumes nothing.
 use mathlib.Core.Path.{_≡_, refl, sym, ap}
 use mathlib.Core.Bool.{Bool, true, false, not, _&&_, _||_}
 use Prim.Native.Nat.{ℕ, _^_, _<_}
@@ -7,7 +7,7 @@ use lib.Dec.{eqb, ltb}
 use Rattle.bits.proofs.Decide.{clash, and-left, and-right}
 use Rattle.pins.specs.AllPins.{Within}
 use Rattle.pins.specs.declared.Sets.{Sets}
-use Rattle.map.specs.Map.{Part, part24, kindAt, code, reserved, fileFits}
+use Rattle.map.specs.Map.{Part, kindAt, code, reserved, fileFits}
 use Rattle.map.specs.Map.Kind.{Reserved}
 use Rattle.registers.specs.Interrupt.{Interrupt, workedOut}
 use Rattle.registers.proofs.Kept.{same-interrupt}
@@ -17,25 +17,25 @@ use Rattle.device_rules.specs.Device.Event.{Start, Stop, ByteSent, ByteF
 use Rattle.device_rules.specs.Held.{Sound}
 use Rattle.device_rules.specs.declared.Answer.the-variants.{Refused}
 
-within-of : (x : Sets) → setsFit part24 x ≡ true → Within 24 x
+within-of : (p : Part) (x : Sets) → setsFit p x ≡ true → Within (p .width) x
 unfolding setsFit
-within-of x e =
-    let a = ltb (x .level) (2 ^ 24) in
-    let b = ltb (x .reference) (2 ^ 24) in
-    let c = ltb (x .held) (2 ^ 24) in
-    let d = ltb (x .edge) (2 ^ 24) in
+within-of p x e =
+    let a = ltb (x .level) (2 ^ p .width) in
+    let b = ltb (x .reference) (2 ^ p .width) in
+    let c = ltb (x .held) (2 ^ p .width) in
+    let d = ltb (x .edge) (2 ^ p .width) in
     let t = and-right a (b && (c && d)) e in
     let u = and-right b (c && d) t in
     record {
-      level-small = ltb-true (x .level) (2 ^ 24) (and-left a (b && (c && d)) e);
-      reference-small = ltb-true (x .reference) (2 ^ 24) (and-left b (c && d) t);
-      held-small = ltb-true (x .held) (2 ^ 24) (and-left c d u);
-      edge-small = ltb-true (x .edge) (2 ^ 24) (and-right c d u);
+      level-small = ltb-true (x .level) (2 ^ p .width) (and-left a (b && (c && d)) e);
+      reference-small = ltb-true (x .reference) (2 ^ p .width) (and-left b (c && d) t);
+      held-small = ltb-true (x .held) (2 ^ p .width) (and-left c d u);
+      edge-small = ltb-true (x .edge) (2 ^ p .width) (and-right c d u);
     }
 
-pub known-small : (n : ℕ) → reserved part24 n ≡ false → n < 128
+pub known-small : (p : Part) (n : ℕ) → reserved p n ≡ false → n < 128
 unfolding reserved
-known-small n e = go (eqb (code (kindAt part24 n)) (code Reserved)) (ltb n 128) refl e
+known-small p n e = go (eqb (code (kindAt p n)) (code Reserved)) (ltb n 128) refl e
   where
     go : (r t : Bool) → ltb n 128 ≡ t → (not t || r) ≡ false → n < 128
     go r true h q = ltb-true n 128 h
@@ -56,59 +56,59 @@ fits-of p s e =
     simp (eq-eqb _ _ (ap (λ (k : Interrupt). k .status) e), eq-eqb _ _ (ap (λ (k : Interrupt). k .line) e))
 
 -- what is known of a state whose image is not refused
-pub sound-of : (s : State) → imageFits part24 s ≡ true → Sound part24 s
+pub sound-of : (p : Part) (s : State) → imageFits p s ≡ true → Sound p s
 unfolding imageFits
-sound-of s e =
-    let p = not (reserved part24 (s .pointer)) in
+sound-of p s e =
+    let r = not (reserved p (s .pointer)) in
     let b = ltb (s .bus) 8 in
     let c = ltb (s .choice) 4 in
-    let x = setsFit part24 (s .regs .sets) in
-    let f = fileFits part24 (s .regs .file) in
-    let k = interruptFits part24 s in
-    let t = and-right p (b && (c && (x && (f && k)))) e in
+    let x = setsFit p (s .regs .sets) in
+    let f = fileFits p (s .regs .file) in
+    let k = interruptFits p s in
+    let t = and-right r (b && (c && (x && (f && k)))) e in
     let u = and-right b (c && (x && (f && k))) t in
     let v = and-right c (x && (f && k)) u in
     let y = and-right x (f && k) v in
-    let known = not-true (reserved part24 (s .pointer)) (and-left p (b && (c && (x && (f && k)))) e) in
+    let known = not-true (reserved p (s .pointer)) (and-left r (b && (c && (x && (f && k)))) e) in
     record {
-      pointer-small = known-small (s .pointer) known;
+      pointer-small = known-small p (s .pointer) known;
       pointer-known = known;
       bus-small = ltb-true (s .bus) 8 (and-left b (c && (x && (f && k))) t);
       choice-small = ltb-true (s .choice) 4 (and-left c (x && (f && k)) u);
-      within = within-of (s .regs .sets) (and-left x (f && k) v);
+      within = within-of p (s .regs .sets) (and-left x (f && k) v);
       file-fits = and-left f k y;
-      right = right-of part24 s (and-right f k y);
+      right = right-of p s (and-right f k y);
     }
 
 -- ---- the refusals in their order, and what is not refused
-pub broken : (s : State) (kind arg : ℕ) → imageFits part24 s ≡ false → out (Refused 3) s ≡ stepped part24 s kind arg
+pub broken : (p : Part) (s : State) (kind arg : ℕ) → imageFits p s ≡ false → out (Refused 3) s ≡ stepped p s kind arg
 unfolding stepped refusal
-broken s kind arg e = simp e
+broken p s kind arg e = simp e
 
-module _ (s : State) (kind arg : ℕ) where
-  pub taken : refusal part24 s kind arg ≡ 0 → step part24 s (eventOf kind arg) ≡ stepped part24 s kind arg
+module _ (p : Part) (s : State) (kind arg : ℕ) where
+  pub taken : refusal p s kind arg ≡ 0 → step p s (eventOf kind arg) ≡ stepped p s kind arg
   unfolding stepped
   taken q = simp q
 
-module _ (s : State) (arg : ℕ) (e : imageFits part24 s ≡ true) where
-  pub byte-fits : arg < 256 → 0 ≡ refusal part24 s 2 arg
+module _ (p : Part) (s : State) (arg : ℕ) (e : imageFits p s ≡ true) where
+  pub byte-fits : arg < 256 → 0 ≡ refusal p s 2 arg
   unfolding refusal
   byte-fits h = simp (e, lt-ltb arg 256 h)
 
-  pub fetch-fits : arg < 2 → 0 ≡ refusal part24 s 3 arg
+  pub fetch-fits : arg < 2 → 0 ≡ refusal p s 3 arg
   unfolding refusal
   fetch-fits h = simp (e, lt-ltb arg 2 h)
 
-  pub start-taken : step part24 s Start ≡ stepped part24 s 0 arg
+  pub start-taken : step p s Start ≡ stepped p s 0 arg
   unfolding stepped refusal
   start-taken = simp e
 
-  pub stop-taken : step part24 s Stop ≡ stepped part24 s 1 arg
+  pub stop-taken : step p s Stop ≡ stepped p s 1 arg
   unfolding stepped refusal
   stop-taken = simp e
 
-  pub byte-taken : arg < 256 → step part24 s (ByteSent arg) ≡ stepped part24 s 2 arg
-  byte-taken h = taken s 2 arg (sym (byte-fits h))
+  pub byte-taken : arg < 256 → step p s (ByteSent arg) ≡ stepped p s 2 arg
+  byte-taken h = taken p s 2 arg (sym (byte-fits h))
 
-  pub fetch-taken : arg < 2 → step part24 s (ByteFetched (eqb arg 1)) ≡ stepped part24 s 3 arg
-  fetch-taken h = taken s 3 arg (sym (fetch-fits h))
+  pub fetch-taken : arg < 2 → step p s (ByteFetched (eqb arg 1)) ≡ stepped p s 3 arg
+  fetch-taken h = taken p s 3 arg (sym (fetch-fits h))

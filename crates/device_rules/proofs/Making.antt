@@ -35,6 +35,6 @@ module _ (choice levels : ℕ) where
     where
       fits-not : makingRefused part24 choice levels ≡ 2 → (b : Bool) → imageFits part24 (at-power-on file) ≡ b → imageFits part24 (at-power-on file) ≡ false
       fits-not z true i =
-          let known = sound-of (at-power-on file) i in
+          let known = sound-of part24 (at-power-on file) i in
           absurd (omega (arith, z, none-over (known .choice-small) (known .within .level-small)))
       fits-not z false i = i

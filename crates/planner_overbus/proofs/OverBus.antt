@@ -19,6 +19,7 @@ use Rattle.device_rules.specs.declared.Answer.the-variants.{Nothing, Ack}
 use Rattle.device_rules.specs.Refusals.{stepped}
 use Rattle.device_demands.specs.Run.{Asked, after, answers}
 use Rattle.device_demands.specs.Transactions.{START, sent, toWrite, writeOver, writtenFrom}
+use Rattle.device_demands.proofs.Lawful.{lawful24}
 use Rattle.device_demands.proofs.Keeps.{WellFormed, run-keeps}
 use Rattle.device_demands.proofs.Transacting.{on, ended, start, to-write, filling, command, fills, data-byte, bus-writes, bus-writes-answers}
 use Rattle.planner_quiet.specs.Settings.{Settings, Write}
@@ -47,7 +48,7 @@ none zero = refl
 none (suc t) = refl
 
 -- ---- one write's transaction
-module _ (s : State) (g : WellFormed s) (w : Write) (h : isPlanned (w .register)) (v : w .value < 256) where
+module _ (s : State) (g : WellFormed part24 s) (w : Write) (h : isPlanned (w .register)) (v : w .value < 256) where
   -- the device after it
   abbrev pub next : State
   next = after part24 s (writeOver (s .choice) (w .register) (w .value))
@@ -55,15 +56,15 @@ module _ (s : State) (g : WellFormed s) (w : Write) (h : isPlanned (w .register)
   known : reserved part24 (w .register) ≡ false
   known = planned-known (w .register) h
 
-  pub kept : WellFormed next
-  kept = run-keeps s g (writeOver (s .choice) (w .register) (w .value))
+  pub kept : WellFormed part24 next
+  kept = run-keeps part24 lawful24 s g (writeOver (s .choice) (w .register) (w .value))
 
   pub done : next .regs ≡ written part24 (s .regs) (w .register) (w .value)
   unfolding writtenFrom
-  done = ap (λ (x : State). x .regs) (bus-writes s g (w .register) known (w .value ∷ []) (v, tt))
+  done = ap (λ (x : State). x .regs) (bus-writes part24 lawful24 s g (w .register) known (w .value ∷ []) (v, tt))
 
   pub there : next .choice ≡ s .choice
-  there = ap (λ (x : State). x .choice) (bus-writes s g (w .register) known (w .value ∷ []) (v, tt))
+  there = ap (λ (x : State). x .choice) (bus-writes part24 lawful24 s g (w .register) known (w .value ∷ []) (v, tt))
 
   -- what follows it goes on from there
   pub then-on : (rest : ℕ → List Asked) → after part24 s (writeOver (s .choice) (w .register) (w .value) ++ rest (s .choice)) ≡ after part24 next (rest (next .choice))
@@ -73,40 +74,40 @@ module _ (s : State) (g : WellFormed s) (w : Write) (h : isPlanned (w .register)
       → answers part24 s (writeOver (s .choice) (w .register) (w .value) ++ rest (s .choice)) ≡ Nothing ∷ Ack ∷ Ack ∷ Ack ∷ Nothing ∷ answers part24 next (rest (next .choice))
   answers-on rest =
       answers-in-turn s (writeOver (s .choice) (w .register) (w .value)) (rest (s .choice))
-      ∙ ap₂ (λ (a b : List Answer). a ++ b) (bus-writes-answers s g (w .register) known (w .value ∷ []) (v, tt)) (ap (λ (c : ℕ). answers part24 next (rest c)) (sym there))
+      ∙ ap₂ (λ (a b : List Answer). a ++ b) (bus-writes-answers part24 lawful24 s g (w .register) known (w .value ∷ []) (v, tt)) (ap (λ (c : ℕ). answers part24 next (rest c)) (sym there))
 
   -- in the middle of it: nothing before the data byte, all of it then
   abbrev first : ℕ → Core
   first m = after part24 s (take m (writeOver (s .choice) (w .register) (w .value))) .regs
 
   pub at-0 : first 0 ≡ s .regs
-  at-0 = ap (λ (x : State). x .regs) (ended s)
+  at-0 = ap (λ (x : State). x .regs) (ended part24 s)
 
   pub at-1 : first 1 ≡ s .regs
-  at-1 = ap (λ (x : State). x .regs) (on s START [] _ (start s g) ∙ ended _)
+  at-1 = ap (λ (x : State). x .regs) (on part24 s START [] _ (start part24 lawful24 s g) ∙ ended part24 _)
 
   pub at-2 : first 2 ≡ s .regs
-  at-2 = ap (λ (x : State). x .regs) (on s START _ _ (start s g) ∙ on (goes s Opened) (toWrite (s .choice)) [] _ (to-write s g) ∙ ended _)
+  at-2 = ap (λ (x : State). x .regs) (on part24 s START _ _ (start part24 lawful24 s g) ∙ on part24 (goes s Opened) (toWrite (s .choice)) [] _ (to-write part24 lawful24 s g) ∙ ended part24 _)
 
   pub at-3 : first 3 ≡ s .regs
   at-3 =
       ap (λ (x : State). x .regs)
-      (on s START _ _ (start s g) ∙ on (goes s Opened) (toWrite (s .choice)) _ _ (to-write s g) ∙ on (goes s Chosen) (sent (w .register)) [] _ (command s g (w .register) known) ∙ ended _)
+      (on part24 s START _ _ (start part24 lawful24 s g) ∙ on part24 (goes s Opened) (toWrite (s .choice)) _ _ (to-write part24 lawful24 s g) ∙ on part24 (goes s Chosen) (sent (w .register)) [] _ (command part24 lawful24 s g (w .register) known) ∙ ended part24 _)
 
   pub at-4 : first 4 ≡ written part24 (s .regs) (w .register) (w .value)
   at-4 =
       ap (λ (x : State). x .regs)
-      (on s START _ _ (start s g) ∙ on (goes s Opened) (toWrite (s .choice)) _ _ (to-write s g) ∙ on (goes s Chosen) (sent (w .register)) _ _ (command s g (w .register) known)
-      ∙ on (filling s g (w .register)) (sent (w .value)) [] _ (data-byte (filling s g (w .register)) (fills s g (w .register) known) refl (w .value) v) ∙ ended _)
+      (on part24 s START _ _ (start part24 lawful24 s g) ∙ on part24 (goes s Opened) (toWrite (s .choice)) _ _ (to-write part24 lawful24 s g) ∙ on part24 (goes s Chosen) (sent (w .register)) _ _ (command part24 lawful24 s g (w .register) known)
+      ∙ on part24 (filling part24 lawful24 s g (w .register)) (sent (w .value)) [] _ (data-byte part24 lawful24 (filling part24 lawful24 s g (w .register)) (fills part24 lawful24 s g (w .register) known) refl (w .value) v) ∙ ended part24 _)
 
 -- ---- the list: registers and pins after the transactions are those after the writes
-over-bus : (s : State) → WellFormed s → (ws : List Write) → Listed ws → after part24 s (overBus (s .choice) ws) .regs ≡ writes (s .regs) ws
-over-bus s g [] l = ap (λ (x : State). x .regs) (ended s)
+over-bus : (s : State) → WellFormed part24 s → (ws : List Write) → Listed ws → after part24 s (overBus (s .choice) ws) .regs ≡ writes (s .regs) ws
+over-bus s g [] l = ap (λ (x : State). x .regs) (ended part24 s)
 over-bus s g (w ∷ ws) l =
     ap (λ (x : State). x .regs) (then-on s g w (l .0) (l .1) (λ c. overBus c ws))
     ∙ over-bus (next s g w (l .0) (l .1)) (kept s g w (l .0) (l .1)) ws (l .2) ∙ ap (λ (r : Core). writes r ws) (done s g w (l .0) (l .1))
 
-over-bus-answers : (s : State) → WellFormed s → (ws : List Write) → Listed ws → answers part24 s (overBus (s .choice) ws) ≡ allTaken ws
+over-bus-answers : (s : State) → WellFormed part24 s → (ws : List Write) → Listed ws → answers part24 s (overBus (s .choice) ws) ≡ allTaken ws
 unfolding answers
 over-bus-answers s g [] l = refl
 over-bus-answers s g (w ∷ ws) l =
@@ -117,9 +118,9 @@ five : (m : ℕ) → (suc (suc (suc (suc (suc m)))) + 1) / 5 ≡ suc ((m + 1) / 
 five m = omega arith
 
 -- after the first m events of the transactions: as after the first (m + 1) / 5 writes
-pub over-bus-throughout : (s : State) → WellFormed s → (ws : List Write) → Listed ws → (m : ℕ) → afterEvents s ws m ≡ afterFirst (s .regs) ws ((m + 1) / 5)
+pub over-bus-throughout : (s : State) → WellFormed part24 s → (ws : List Write) → Listed ws → (m : ℕ) → afterEvents s ws m ≡ afterFirst (s .regs) ws ((m + 1) / 5)
 over-bus-throughout s g [] l m =
-    ap (λ (es : List Asked). after part24 s es .regs) (none m) ∙ ap (λ (x : State). x .regs) (ended s)
+    ap (λ (es : List Asked). after part24 s es .regs) (none m) ∙ ap (λ (x : State). x .regs) (ended part24 s)
     ∙ sym (ap (λ (ws : List Write). writes (s .regs) ws) (none ((m + 1) / 5)))
 over-bus-throughout s g (w ∷ ws) l zero = at-0 s g w (l .0) (l .1)
 over-bus-throughout s g (w ∷ ws) l (suc zero) = at-1 s g w (l .0) (l .1)
@@ -163,11 +164,11 @@ module _ (slow course : ℕ → Core) (goal : Settings) (i : ℕ) (follows : (m 
   }
 
 -- a well-formed state's registers and pins are formed
-formed : (s : State) → WellFormed s → Formed (s .regs)
+formed : (s : State) → WellFormed part24 s → Formed (s .regs)
 formed s g = record { full = g .full; fits = g .sound .file-fits; within = g .sound .within }
 
 -- a quiet list is quiet over the bus, on every well-formed device at the start, at every moment
-pub quiet-over-bus : (s : State) → WellFormed s → (start goal : Settings) → settingsOf (s .regs) ≡ start → (ws : List Write) → Listed ws → Quiet start goal ws → QuietOverBus s goal ws
+pub quiet-over-bus : (s : State) → WellFormed part24 s → (start goal : Settings) → settingsOf (s .regs) ≡ start → (ws : List Write) → Listed ws → Quiet start goal ws → QuietOverBus s goal ws
 quiet-over-bus s g start goal e ws l quiet =
     let q = quiet (s .regs) (formed s g) e in
     record {

@@ -14,6 +14,7 @@ use Rattle.device_rules.specs.Answers.{refusalNumber}
 use Rattle.device_rules.specs.declared.Answer.{Answer}
 use Rattle.device_rules.specs.Refusals.{imageFits, stepped}
 use Rattle.device_rules.proofs.Images.{broken}
+use Rattle.device_demands.proofs.Lawful.{lawful24}
 use Rattle.device_demands.proofs.Keeps.{image-of, well-formed, stepped-keeps}
 use Rattle.text.specs.Text.{Wrote}
 use Rattle.text.proofs.Laws.{wrote-as}
@@ -58,7 +59,7 @@ step-fits line {a} {s} e z = go (imageFits part24 (imageIn line)) refl
     go : (t : Bool) → imageFits part24 (imageIn line) ≡ t → imageFits part24 s ≡ true
     go true q =
         ap (λ (o : Outcome). imageFits part24 (o .after)) e
-        ∙ image-of _ (stepped-keeps (imageIn line) (well-formed (imageIn line) q refl) (kindIn line) (argumentIn line) .sound)
+        ∙ image-of part24 _ (stepped-keeps part24 lawful24 (imageIn line) (well-formed part24 (imageIn line) q refl) (kindIn line) (argumentIn line) .sound)
     go false q =
-        let r : refusalNumber a ≡ 3 = ap (λ (o : Outcome). refusalNumber (o .answer)) (e ∙ sym (broken (imageIn line) (kindIn line) (argumentIn line) q)) in
+        let r : refusalNumber a ≡ 3 = ap (λ (o : Outcome). refusalNumber (o .answer)) (e ∙ sym (broken part24 (imageIn line) (kindIn line) (argumentIn line) q)) in
         absurd (omega (arith, z, r))

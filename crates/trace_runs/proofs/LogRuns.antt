@@ -15,6 +15,7 @@ use Rattle.device_rules.specs.Refusals.{argumentFits, refusal, stepped, eventOf
 use Rattle.device_rules.specs.PowerOn.{powerOn}
 use Rattle.device_rules.proofs.Images.{taken}
 use Rattle.device_demands.specs.Run.{Asked, seenFrom, run}
+use Rattle.device_demands.proofs.Lawful.{lawful24}
 use Rattle.device_demands.proofs.Keeps.{WellFormed, image-of, stepped-keeps, power-on-fits}
 use Rattle.device_demands.proofs.Runs.{step-answers}
 use Rattle.trace_lines.specs.Lines.{lineOf, Taken, Means}
@@ -49,7 +50,7 @@ log-run log first lines choice levels es all made says =
 -- ---- refusals
 abbrev Fine : Session → Type 0
 Fine NoDevice = Unit {0}
-Fine (With s) = WellFormed s
+Fine (With s) = WellFormed part24 s
 
 -- an event that a line says is not refused by a well-formed device
 fits : (kind arg : ℕ) → Taken kind arg → argumentFits part24 kind arg ≡ true
@@ -67,13 +68,13 @@ fits kind arg t = two (eqb kind 2) refl
             four true e = lt-ltb arg (2 ^ 24) (omega (arith, t .3 (eqb-true kind 4 e)))
             four false e = refl
 
-unrefused : (s : State) → WellFormed s → (kind arg : ℕ) → Taken kind arg → refusal part24 s kind arg ≡ 0
+unrefused : (s : State) → WellFormed part24 s → (kind arg : ℕ) → Taken kind arg → refusal part24 s kind arg ≡ 0
 unfolding refusal
-unrefused s g kind arg t = simp (image-of s (g .sound), le-leb kind 5 (t .0), fits kind arg t)
+unrefused s g kind arg t = simp (image-of part24 s (g .sound), le-leb kind 5 (t .0), fits kind arg t)
 
-answers : (s : State) → WellFormed s → (kind arg : ℕ) → Taken kind arg → refusalNumber (stepped part24 s kind arg .answer) ≡ 0
+answers : (s : State) → WellFormed part24 s → (kind arg : ℕ) → Taken kind arg → refusalNumber (stepped part24 s kind arg .answer) ≡ 0
 answers s g kind arg t =
-    ap (λ (o : Outcome). refusalNumber (o .answer)) (sym (taken s kind arg (unrefused s g kind arg t))) ∙ step-answers s (eventOf kind arg)
+    ap (λ (o : Outcome). refusalNumber (o .answer)) (sym (taken part24 s kind arg (unrefused s g kind arg t))) ∙ step-answers part24 s (eventOf kind arg)
 
 -- each line's answer, and what there is after it
 said : (x : Session) → Fine x → (l : Line) → Means l → Answered (traced x l .line) × Fine (traced x l .after)
@@ -81,10 +82,10 @@ unfolding traced
 said x g Unreadable m = (inl refl, g)
 said x g (Device choice levels) m =
     let h = m .makes choice levels refl in
-    (inr (out Nothing (powerOn part24 choice levels), refl, refl), power-on-fits choice levels (omega (arith, h)) (omega (arith, h)))
+    (inr (out Nothing (powerOn part24 choice levels), refl, refl), power-on-fits part24 lawful24 choice levels (omega (arith, h)) (omega (arith, h)))
 said NoDevice g (Event kind arg) m = (inl refl, tt)
 said (With s) g (Event kind arg) m =
-    (inr (stepped part24 s kind arg, answers s g kind arg (m .takes kind arg refl), refl), stepped-keeps s g kind arg)
+    (inr (stepped part24 s kind arg, answers s g kind arg (m .takes kind arg refl), refl), stepped-keeps part24 lawful24 s g kind arg)
 
 all-answered : (x : Session) → Fine x → (lines : List (List ℕ)) → AllAnswered x lines
 all-answered x g [] = tt

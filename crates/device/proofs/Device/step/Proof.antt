@@ -13,7 +13,7 @@ use Rattle.device.proofs.Device.step.Statement.{statement}
 use Rattle.device.proofs.Device.step.Tie as tie
 
 returns : tie.Need-returns
-returns c = broken _ _ _ (no-image (c .before .pack .ensures) (not-true _ (c .if1 .taken)))
+returns c = broken part24 _ _ _ (no-image (c .before .pack .ensures) (not-true _ (c .if1 .taken)))
 
 event-requires : tie.Need-event-requires
 event-requires c κs =
