@@ -5,27 +5,25 @@ use mathlib.Core.List.{List}
 use Prim.Native.Nat.{ℕ, zero, suc, _+_, _-_, _*_, _/_, _%_, _^_, _<_}
 use native.Mathlib.Nat.{div-add-mod', mod-lt}
 use native.Mathlib.Omega.{arith}
-use borrow.Author.Tests.{ltb-true}
 use lib.Arith.{digits-div, digits-mod}
 use lib.Bits.{bitAnd, bitOr}
-use lib.Dec.{eqb, ltb}
+use lib.Dec.{eqb}
 use lib.ListN.{getD}
 use Rattle.bits.specs.Bits.{bit, tabulate}
 use Rattle.bits.proofs.Decide.{each}
 use Rattle.bits.proofs.Laws.{bit-tabulate, tabulate-ext}
 use Rattle.bits.proofs.Join.{digit-of}
-use Rattle.pins.specs.Pin.{inputBit, status}
+use Rattle.pins.specs.Pin.{inputBit}
 use Rattle.pins.specs.AllPins.{pinAt}
-use Rattle.pins.specs.OnePin.{inputOf, statusOf}
+use Rattle.pins.specs.OnePin.{inputOf}
 use Rattle.ports.specs.Ports.{byteOf}
 use Rattle.map.specs.Map.{Part, Kind, kindAt, firstOf, stored, code}
 use Rattle.map.specs.Map.Kind.{Reserved, Input, Status, InputStatus, Configuration, Latch, Mask, PortKind, Edge, Clear, Output, Polarity, PinKind, Stored}
 use Rattle.registers.specs.Registers.{onePin, shownAs, shown}
 use Rattle.registers.specs.Interrupt.{shownKept}
-use Rattle.words.specs.Words.{slotAt, digitAt, heldBit, entryOf, paired, setsIn, interruptIn, coreIn, pinIn, zipped, Fit}
+use Rattle.words.specs.Words.{slotAt, digitAt, heldBit, entryOf, paired, setsIn, interruptIn, coreIn, pinIn, zipped}
 use Rattle.words.proofs.Sound.{Sound, grouped, place-is, place-ported}
 use Rattle.words.proofs.Reading.{file-entry, group-read, kind-read, registers-read}
-use Rattle.words.proofs.Holding.{pin-word}
 
 -- ---- pins
 module _ (p : Part) (ok : Sound p) (w : List ℕ) (i : ℕ) where
@@ -37,18 +35,6 @@ module _ (p : Part) (ok : Sound p) (w : List ℕ) (i : ℕ) where
   input-read h = λ j.
       inputBit (group-read p ok w i h Configuration refl refl refl j) (group-read p ok w i h Latch refl refl refl j) (group-read p ok w i h Polarity refl refl refl j)
       (kind-read p ok w i h j) (group-read p ok w i h PinKind refl refl refl j) (pinAt (setsIn w) i)
-
-  -- the status bit too, where no bit that does not exist is set
-  pub status-read : Fit p w → i < 8 * p .ports → statusOf (onePin p (coreIn p w) i) ≡ statusOf (pinIn w i)
-  unfolding status
-  status-read fit h = go (ltb i (p .width)) refl
-    where
-      quiet : ltb i (p .width) ≡ false → bit (getD w 4 0) i ≡ false
-      quiet e = fit .clear 4 i (omega arith) (ap (ltb i) (pin-word p ok 4 (omega arith) refl) ∙ e)
-
-      go : (t : Bool) → ltb i (p .width) ≡ t → statusOf (onePin p (coreIn p w) i) ≡ statusOf (pinIn w i)
-      go true e = ap statusOf (one-pin (ltb-true i (p .width) e))
-      go false e = simp (group-read p ok w i h Configuration refl refl refl, quiet e)
 
 -- ---- bytes
 half : (k j : ℕ) → j < 8 → ((8 * k + j) % 2 ≡ j % 2) × ((8 * k + j) / 2 ≡ 4 * k + j / 2)
