@@ -109,6 +109,11 @@ part34 = record {
   width = 34;
 }
 
+-- the part of that number: 0 is the 24-pin part, 1 its sister
+abbrev pub partOf : ℕ → Part
+partOf zero = part24
+partOf (suc n) = part34
+
 -- the group of the number n; all numbers outside the groups are reserved, and each stands alone
 abbrev pub groupIn : List Group → ℕ → Group
 groupIn [] n = group n n Reserved 0x00 8

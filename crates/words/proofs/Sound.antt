@@ -8,11 +8,11 @@ use borrow.Author.Tests.{eqb-true, ltb-true, lt-ltb}
 use lib.Dec.{eqb, ltb}
 use Rattle.bits.proofs.Decide.{each, eachBool, clash}
 use mathlib.Core.List.{List, [], _∷_}
-use Rattle.map.specs.Map.{Part, Group, Kind, part24, part34, kindAt, firstOf, stored, code, roomAt, whole}
+use Rattle.map.specs.Map.{Part, Group, Kind, part24, part34, kindAt, firstOf, stored, code, roomAt, whole, partOf}
 use Rattle.map.specs.Map.Kind.{Reserved, Input, Status, InputStatus, Configuration, Latch, Mask, PortKind, Edge, Clear, Output, Polarity, PinKind, Stored}
 use Rattle.map.proofs.ByNumber.{named, kind-is}
 use Rattle.registers.proofs.Pinwise.{Mapped, mapped24, mapped34}
-use Rattle.words.specs.Words.{partOf, slots, slotAt, digitAt, wideOf, paired}
+use Rattle.words.specs.Words.{slots, slotAt, digitAt, wideOf, paired}
 
 -- where the group of a word begins
 abbrev baseIn : List Group → List ℕ → ℕ → ℕ

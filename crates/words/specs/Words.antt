@@ -2,7 +2,7 @@
 use mathlib.Core.Path.{_≡_}
 use mathlib.Core.Bool.{Bool, false, cond, _&&_, _||_}
 use mathlib.Core.List.{List, [], _∷_}
-use Prim.Native.Nat.{ℕ, zero, suc, _+_, _-_, _/_, _%_, _^_, _<_}
+use Prim.Native.Nat.{ℕ, _+_, _-_, _/_, _%_, _^_, _<_}
 use lib.Bits.{bitOr}
 use lib.Dec.{leb, ltb, eqb}
 use lib.ListN.{length, getD, set}
@@ -12,14 +12,9 @@ use Rattle.pins.specs.AllPins.{pinAt}
 use Rattle.pins.specs.OnePin.{Registers, OnePin, registers}
 use Rattle.pins.specs.declared.Sets.{Sets}
 use Rattle.ports.specs.Ports.{byteOf}
-use Rattle.map.specs.Map.{Part, Group, part24, part34, groupIn, kindAt, stored, keptIn, entries}
+use Rattle.map.specs.Map.{Part, Group, partOf, groupIn, kindAt, stored, keptIn, entries}
 use Rattle.registers.specs.Registers.{Core, core, keptAs}
 use Rattle.registers.specs.Interrupt.{Interrupt, interrupt}
-
--- the part of that number
-abbrev pub partOf : ℕ → Part
-partOf zero = part24
-partOf (suc n) = part34
 
 -- ---- the words by their numbers. The pins: level 0, reference 1, held 2, edge 3. Then the stored groups. From 19 on what is neither, status set and line first: 28 in all.
 abbrev pub configurationWord : ℕ

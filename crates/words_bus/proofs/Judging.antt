@@ -11,7 +11,7 @@ use lib.ListN.{getD}
 use lib.Seq.{ext-getD}
 use Rattle.bits.proofs.Decide.{clash}
 use Rattle.pins.specs.declared.Sets.{Sets}
-use Rattle.map.specs.Map.{Part, reserved}
+use Rattle.map.specs.Map.{Part, reserved, partOf}
 use Rattle.registers.specs.Registers.{Core}
 use Rattle.device_rules.specs.Device.{State, Bus, Outcome, number, busAt, state, out, goes, addressByte, byteIn, fetchIn, Event, step}
 use Rattle.device_rules.specs.Device.Bus.{Idle, Opened, Chosen, Filling, Sending, Call, Armed, Deaf}
@@ -20,7 +20,7 @@ use Rattle.device_rules.specs.declared.Answer.{Answer}
 use Rattle.device_rules.specs.declared.Answer.the-variants.{Nothing, Ack, Nak, Byte, Refused}
 use Rattle.device_rules.specs.Refusals.{eventOf, setsFit, imageFits, argumentFits, refusal, stepped}
 use Rattle.device_rules.proofs.Images.{fits-of}
-use Rattle.words.specs.Words.{partOf, setsIn}
+use Rattle.words.specs.Words.{setsIn}
 use Rattle.words.proofs.Sound.{sound}
 use Rattle.words.proofs.Holding.{within}
 use Rattle.words.proofs.Fits.{same-word-of, file-of-fits}

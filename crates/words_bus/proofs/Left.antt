@@ -13,7 +13,7 @@ use lib.Seq.{getD-set-same, getD-set-other}
 use Rattle.bits.specs.Bits.{bit}
 use Rattle.bits.proofs.Decide.{and-left, and-right}
 use Rattle.pins.proofs.AllPins.{same}
-use Rattle.map.specs.Map.{Part, kindAt, code, reserved}
+use Rattle.map.specs.Map.{Part, kindAt, code, reserved, partOf}
 use Rattle.map.specs.Map.Kind.{Reserved}
 use Rattle.registers.specs.Registers.{Core}
 use Rattle.registers.specs.Interrupt.{Interrupt, workedOut}
@@ -24,7 +24,7 @@ use Rattle.device_rules.specs.Device.Event.{ByteSent}
 use Rattle.device_rules.specs.declared.Answer.{Answer}
 use Rattle.device_rules.specs.declared.Answer.the-variants.{Nothing, Ack, Nak, Byte, Refused}
 use Rattle.device_rules.proofs.Stepping.{same-state, at-bus}
-use Rattle.words.specs.Words.{partOf, coreIn, interruptIn, withInterrupt, Fit, Holds}
+use Rattle.words.specs.Words.{coreIn, interruptIn, withInterrupt, Fit, Holds}
 use Rattle.words.proofs.Sound.{sound}
 use Rattle.words.proofs.Writing.{file-beside}
 use Rattle.words_rows.specs.Rows.{rowAt}

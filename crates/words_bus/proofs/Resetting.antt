@@ -11,7 +11,7 @@ use Rattle.pins.specs.Pin.{reset}
 use Rattle.pins.specs.AllPins.{mapPins}
 use Rattle.pins.specs.declared.Sets.{Sets}
 use Rattle.pins.proofs.AllPins.{map-within}
-use Rattle.map.specs.Map.{part24, part34, kindAt, reserved, defaults}
+use Rattle.map.specs.Map.{part24, part34, kindAt, reserved, defaults, partOf}
 use Rattle.registers.specs.Registers.{core}
 use Rattle.registers.specs.Interrupt.{workedOut, quiet}
 use Rattle.registers.proofs.Writing.{same as same-core}
@@ -20,7 +20,7 @@ use Rattle.device_rules.specs.Device.{number, state, out, resetted}
 use Rattle.device_rules.specs.Device.Bus.{Idle}
 use Rattle.device_rules.specs.declared.Answer.the-variants.{Nothing}
 use Rattle.device_rules.proofs.Stepping.{same-state}
-use Rattle.words.specs.Words.{partOf, slotAt, digitAt, heldBit, entryOf, fileOf, wideOf, setsIn, withSets, coreIn, interruptIn, Fit, Holds}
+use Rattle.words.specs.Words.{slotAt, digitAt, heldBit, entryOf, fileOf, wideOf, setsIn, withSets, coreIn, interruptIn, Fit, Holds}
 use Rattle.words.proofs.Sound.{sound, mapped}
 use Rattle.words.proofs.Fits.{fit-of-small}
 use Rattle.words.proofs.Holding.{holds-sets}

@@ -5,7 +5,8 @@ use Prim.Native.Nat.{ℕ, _-_, _^_, _≤_}
 use native.Mathlib.Omega.{arith}
 use lib.ListN.{getD}
 use lib.Pow.{pow-pos}
-use Rattle.words.specs.Words.{partOf, PinLevels}
+use Rattle.map.specs.Map.{partOf}
+use Rattle.words.specs.Words.{PinLevels}
 use Rattle.words_rows.specs.Rows.{rowAt, Known}
 use Rattle.words_bus.specs.Packed.{Packed, Standing}
 

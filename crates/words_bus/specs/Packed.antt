@@ -6,14 +6,14 @@ use Prim.Native.Nat.{ℕ, zero, suc, _-_, _/_, _%_, _^_, _<_}
 use lib.Bits.{bitOr}
 use lib.Dec.{ltb}
 use lib.ListN.{getD}
-use Rattle.map.specs.Map.{Part, reserved}
+use Rattle.map.specs.Map.{Part, reserved, partOf}
 use Rattle.device_rules.specs.Device.{State, Outcome, state, out}
 use Rattle.device_rules.specs.declared.Answer.{Answer}
 use Rattle.device_rules.specs.declared.Answer.the-variants.{Nothing, Ack, Nak, Byte, Refused}
 use Rattle.device_rules.specs.Refusals.{stepped}
 use Rattle.registers.specs.Registers.{Core}
 use Rattle.registers.specs.Interrupt.{workedOut}
-use Rattle.words.specs.Words.{partOf, coreIn, interruptIn, wideOf, portKindWord, debounceEnableWord, debounceCountWord, Fit}
+use Rattle.words.specs.Words.{coreIn, interruptIn, wideOf, portKindWord, debounceEnableWord, debounceCountWord, Fit}
 use Rattle.words_rows.specs.Rows.{rowAt}
 
 abbrev pub pointerWord : ℕ

@@ -2,9 +2,9 @@
 use mathlib.Core.Path.{_≡_, ap, _∙_}
 use mathlib.Core.List.{List}
 use Prim.Native.Nat.{ℕ}
+use Rattle.map.specs.Map.{partOf}
 use Rattle.device_rules.specs.Device.{Outcome, out}
 use Rattle.device_rules.specs.declared.Answer.{Answer}
-use Rattle.words.specs.Words.{partOf}
 use Rattle.words_bus.specs.Packed.{stateIn, Leaves}
 
 pub answered : {c : ℕ} {w : List ℕ} {a b : Answer} {o : Outcome} → a ≡ b → Leaves c w b o → Leaves c w a o

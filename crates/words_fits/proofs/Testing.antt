@@ -12,8 +12,9 @@ use lib.ListN.{length, getD}
 use Rattle.bits.specs.Bits.{bit, without}
 use Rattle.bits.proofs.Decide.{clash}
 use Rattle.bits.proofs.Laws.{bit-zero, bit-or, bit-without}
+use Rattle.map.specs.Map.{partOf}
 use Rattle.registers.specs.Interrupt.{workedOut}
-use Rattle.words.specs.Words.{partOf, coreIn, interruptIn, wideOf, Fit}
+use Rattle.words.specs.Words.{coreIn, interruptIn, wideOf, Fit}
 use Rattle.words.proofs.Sound.{sound}
 use Rattle.words.proofs.Holding.{small-of-clear, pin-word}
 use Rattle.words.proofs.Existing.{ones-bit}

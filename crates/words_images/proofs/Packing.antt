@@ -12,7 +12,7 @@ use lib.Seq.{getD-set-same, getD-set-other}
 use Rattle.bits.proofs.Decide.{clash, and-left, and-right}
 use Rattle.pins.specs.AllPins.{Within}
 use Rattle.pins.specs.declared.Sets.{Sets}
-use Rattle.map.specs.Map.{Part, reserved, fileFits}
+use Rattle.map.specs.Map.{Part, reserved, fileFits, partOf}
 use Rattle.registers.specs.Registers.{Core, core}
 use Rattle.device_rules.specs.Device.{State, state, out}
 use Rattle.device_rules.specs.Held.{stateOf}
@@ -22,7 +22,7 @@ use Rattle.device_rules.specs.Refusals.{setsFit, interruptFits, imageFits, step
 use Rattle.device_rules.proofs.Images.{right-of}
 use Rattle.registers.specs.Interrupt.{interrupt, workedOut}
 use Rattle.registers.proofs.Kept.{same-interrupt, line-small}
-use Rattle.words.specs.Words.{partOf, fileOf, setsIn, withSets, coreIn, interruptIn, Fit, Holds}
+use Rattle.words.specs.Words.{fileOf, setsIn, withSets, coreIn, interruptIn, Fit, Holds}
 use Rattle.words.proofs.Sound.{sound}
 use Rattle.words.proofs.Holding.{within, sets-there, holds-sets}
 use Rattle.words_bus.specs.Packed.{stateIn, Packed, Steps}

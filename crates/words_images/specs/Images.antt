@@ -5,10 +5,11 @@ use mathlib.Core.List.{List}
 use Prim.Native.Nat.{ℕ, _%_}
 use lib.Dec.{ltb}
 use lib.ListN.{getD}
+use Rattle.map.specs.Map.{partOf}
 use Rattle.device_rules.specs.Device.{State}
 use Rattle.device_rules.specs.declared.Rest.{Rest}
 use Rattle.device_rules.specs.Refusals.{imageFits}
-use Rattle.words.specs.Words.{partOf, setsIn, statusWord, lineWord}
+use Rattle.words.specs.Words.{setsIn, statusWord, lineWord}
 use Rattle.words_bus.specs.Packed.{stateIn, pointerWord, busWord, choiceWord, Packed}
 
 -- an image of part c, judged as an image; the words are its packing then, or as they were

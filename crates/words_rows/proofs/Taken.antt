@@ -8,10 +8,10 @@ use borrow.Author.Tests.{eqb-true, eqb-false, ne-eqb, ltb-true, ltb-false, lt-lt
 use lib.Bits.{bitAnd, bitOr}
 use lib.Dec.{eqb, ltb}
 use Rattle.bits.proofs.Decide.{each, eachBool, clash}
-use Rattle.map.specs.Map.{Part, Kind, part24, part34, kindAt, code, stored, reserved, next, successor, roomAt}
+use Rattle.map.specs.Map.{Part, Kind, part24, part34, kindAt, code, stored, reserved, next, successor, roomAt, partOf}
 use Rattle.map.specs.Map.Kind.{Reserved, Input, Status, InputStatus, Configuration, Latch, Mask, PortKind, Edge, Clear, Output, Polarity, PinKind, Stored}
 use Rattle.registers.specs.Interrupt.{rings}
-use Rattle.words.specs.Words.{partOf, slotAt, digitAt, paired}
+use Rattle.words.specs.Words.{slotAt, digitAt, paired}
 use Rattle.words.proofs.Moving.{still}
 use Rattle.words.proofs.Sound.{sound, single, pick, code-small, word-is}
 use Rattle.map.proofs.ByNumber.{kind-is}

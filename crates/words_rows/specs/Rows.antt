@@ -6,8 +6,8 @@ use Prim.Native.Nat.{ℕ, _+_, _-_, _*_, _/_, _^_, _<_}
 use lib.Bits.{bitAnd}
 use lib.Dec.{eqb}
 use lib.ListN.{getD}
-use Rattle.map.specs.Map.{Part, kindAt, code, reserved, next, roomAt}
-use Rattle.words.specs.Words.{partOf, slotAt, digitAt, paired, strengthWord, Fit}
+use Rattle.map.specs.Map.{Part, kindAt, code, reserved, next, roomAt, partOf}
+use Rattle.words.specs.Words.{slotAt, digitAt, paired, strengthWord, Fit}
 
 -- what writing and reading it does: its kind's number; 14 for drive strength, which is stored like the others but in two words
 abbrev pub ruleAt : Part → ℕ → ℕ

@@ -2,9 +2,9 @@
 ghost use mathlib.Core.Path.{_≡_};
 ghost use mathlib.Core.Bool.{false, true};
 ghost use Prim.Native.Nat.{ℕ, _-_, _^_, _<_};
-ghost use Rattle.map.specs.Map.{part24, part34, kindAt, reserved, successor, roomAt};
+ghost use Rattle.map.specs.Map.{part24, part34, kindAt, reserved, successor, roomAt, partOf};
 ghost use Rattle.registers.specs.Interrupt.{rings};
-ghost use Rattle.words.specs.Words.{partOf, slotAt, digitAt, paired};
+ghost use Rattle.words.specs.Words.{slotAt, digitAt, paired};
 ghost use Rattle.words_rows.specs.Rows.{ruleAt, rowAt, wordIn, Rowed};
 
 // The rules, by their numbers: a kind's is the kind's own.

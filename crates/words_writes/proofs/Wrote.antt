@@ -16,9 +16,9 @@ use Rattle.pins.specs.OnePin.{Happening, pinAfter}
 use Rattle.pins.specs.OnePin.Happening.{Elsewhere}
 use Rattle.pins.specs.declared.Sets.{Sets}
 use Rattle.ports.specs.Ports.{inPort, portBit, inEdge, risingBit, fallingBit}
-use Rattle.map.specs.Map.{Part, Kind, kindAt, firstOf, code, stored, keptIn}
+use Rattle.map.specs.Map.{Part, Kind, kindAt, firstOf, code, stored, keptIn, partOf}
 use Rattle.registers.specs.Registers.{core, keptAs, written, writtenTo}
-use Rattle.words.specs.Words.{partOf, slotAt, digitAt, paired, fileOf, storedIn, wideOf, setsIn, withSets, coreIn, wordsAt, mergedAt, mergedPair, Fit, Holds}
+use Rattle.words.specs.Words.{slotAt, digitAt, paired, fileOf, storedIn, wideOf, setsIn, withSets, coreIn, wordsAt, mergedAt, mergedPair, Fit, Holds}
 use Rattle.words.proofs.Sound.{Sound, sound, grouped, single, word-held, word-high}
 use Rattle.words.proofs.Moving.{still, unmoved-by, moved-by}
 use Rattle.words.proofs.Storing.{pair-case, wrote-one, fit-one, wrote-two, fit-two}

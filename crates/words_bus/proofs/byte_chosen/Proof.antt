@@ -4,10 +4,9 @@ use mathlib.Core.Path.{_≡_, sym, ap, _∙_}
 use mathlib.Core.Bool.{true, false}
 use native.Mathlib.Omega.{arith}
 use borrow.Author.Tests.{eq-eqb, ne-eqb}
-use Rattle.map.specs.Map.{reserved}
+use Rattle.map.specs.Map.{reserved, partOf}
 use Rattle.device_rules.specs.Device.{byteIn}
 use Rattle.device_rules.specs.declared.Answer.the-variants.{Ack, Nak}
-use Rattle.words.specs.Words.{partOf}
 use Rattle.words_bus.specs.Packed.{answerAt}
 use Rattle.words_bus.proofs.Left.{went, chose, over, command-row}
 use Rattle.words_bus.proofs.byte_chosen.Statement.{statement}

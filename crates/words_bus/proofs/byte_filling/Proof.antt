@@ -2,11 +2,12 @@
 use borrow.Author.Needs.{needs}
 use mathlib.Core.Path.{refl, sym, ap}
 use lib.ListN.{getD}
+use Rattle.map.specs.Map.{partOf}
 use Rattle.registers.proofs.Kept.{kept-written}
 use Rattle.device_rules.specs.Device.{State, out, byteIn}
 use Rattle.device_rules.specs.declared.Answer.the-variants.{Ack}
 use Rattle.device_rules.proofs.Stepping.{same-state}
-use Rattle.words.specs.Words.{partOf, coreIn, interruptIn}
+use Rattle.words.specs.Words.{coreIn, interruptIn}
 use Rattle.words.proofs.Sound.{mapped}
 use Rattle.words.proofs.Images.{file-length}
 use Rattle.words_rows.proofs.Taken.{known-small, next-of, next-known}

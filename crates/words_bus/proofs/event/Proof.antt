@@ -5,11 +5,12 @@ use Prim.Native.Nat.{_^_, _<_}
 use native.Mathlib.Omega.{arith}
 use borrow.Author.Tests.{lt-ltb, le-ltb, lt-leb}
 use lib.Pow.{pow-pos}
+use Rattle.map.specs.Map.{partOf}
 use Rattle.device_rules.specs.Device.{out, step}
 use Rattle.device_rules.specs.declared.Answer.the-variants.{Nothing, Refused}
 use Rattle.device_rules.proofs.Stepping.{same-state}
 use Rattle.registers.proofs.Kept.{kept-levelled}
-use Rattle.words.specs.Words.{partOf, coreIn, interruptIn}
+use Rattle.words.specs.Words.{coreIn, interruptIn}
 use Rattle.words_bus.specs.Packed.{answerAt}
 use Rattle.words_bus.proofs.Left.{left-same, went, holds-left, by-rule}
 use Rattle.words_bus.proofs.Standing.{pin-levels}

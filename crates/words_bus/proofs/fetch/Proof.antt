@@ -3,11 +3,12 @@ use borrow.Author.Needs.{needs}
 use mathlib.Core.Path.{refl, sym, ap}
 use native.Mathlib.Omega.{arith}
 use lib.ListN.{getD}
+use Rattle.map.specs.Map.{partOf}
 use Rattle.device_rules.specs.Device.{fetchIn}
 use Rattle.device_rules.specs.declared.Answer.the-variants.{Byte}
 use Rattle.device_rules.proofs.Stepping.{same-state, same-outcome, sending, stray-fetch}
 use Rattle.registers.proofs.Kept.{kept-fetched}
-use Rattle.words.specs.Words.{partOf, coreIn, interruptIn}
+use Rattle.words.specs.Words.{coreIn, interruptIn}
 use Rattle.words_rows.proofs.Taken.{known-small, next-of, next-known, known-inside}
 use Rattle.words_bus.specs.Packed.{stateIn}
 use Rattle.words_bus.proofs.Left.{left-same, holds-bus, holds-pointer}

@@ -4,7 +4,7 @@ use mathlib.Core.Path.{ap, _∙_}
 use Rattle.pins.specs.Pin.{reset}
 use Rattle.pins.specs.AllPins.{mapPins}
 use Rattle.pins.specs.declared.Sets.{Sets}
-use Rattle.words.specs.Words.{partOf}
+use Rattle.map.specs.Map.{partOf}
 use Rattle.words.proofs.Sound.{sound}
 use Rattle.words.proofs.Holding.{within}
 use Rattle.words_bus.proofs.Resetting.{reset-left}

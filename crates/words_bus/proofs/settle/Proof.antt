@@ -3,8 +3,9 @@ use borrow.Author.Needs.{needs}
 use native.Mathlib.Omega.{arith}
 use borrow.Author.Tests.{ne-eqb}
 use lib.ListN.{getD}
+use Rattle.map.specs.Map.{partOf}
 use Rattle.registers.proofs.Kept.{unrung-fetched}
-use Rattle.words.specs.Words.{partOf, coreIn, interruptIn}
+use Rattle.words.specs.Words.{coreIn, interruptIn}
 use Rattle.words_rows.proofs.Taken.{known-small, low-rule}
 use Rattle.words_bus.proofs.Left.{rung, unrung}
 use Rattle.words_bus.proofs.settle.Statement.{statement}

@@ -2,8 +2,9 @@
 use borrow.Author.Needs.{needs}
 use mathlib.Core.Path.{sym, _∙_}
 use lib.ListN.{getD}
+use Rattle.map.specs.Map.{partOf}
 use Rattle.registers.proofs.Kept.{unrung-written}
-use Rattle.words.specs.Words.{partOf, coreIn, interruptIn}
+use Rattle.words.specs.Words.{coreIn, interruptIn}
 use Rattle.words.proofs.Sound.{mapped}
 use Rattle.words.proofs.Images.{file-length}
 use Rattle.words_rows.proofs.Taken.{known-small}

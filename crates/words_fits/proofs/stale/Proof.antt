@@ -2,9 +2,9 @@
 use borrow.Author.Needs.{needs}
 use mathlib.Core.Path.{_≡_, sym, ap, _∙_}
 use lib.ListN.{getD}
+use Rattle.map.specs.Map.{partOf}
 use Rattle.registers.specs.Interrupt.{Interrupt}
 use Rattle.registers.proofs.Kept.{same-interrupt}
-use Rattle.words.specs.Words.{partOf}
 use Rattle.words.proofs.Sound.{sound}
 use Rattle.words.proofs.Seen.{status-worked, line-worked}
 use Rattle.words_fits.proofs.Testing.{stale-zero, zero-stale}

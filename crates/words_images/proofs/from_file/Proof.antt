@@ -3,8 +3,8 @@ use borrow.Author.Needs.{needs}
 use mathlib.Core.Path.{_≡_, refl, ap, _∙_}
 use Prim.Native.Nat.{ℕ, _-_, _<_}
 use lib.ListN.{getD}
+use Rattle.map.specs.Map.{partOf}
 use Rattle.registers.specs.Registers.{Core}
-use Rattle.words.specs.Words.{partOf}
 use Rattle.words.proofs.Sound.{sound}
 use Rattle.words.proofs.Images.{Taken, all-zero, taken-none, taken-more, taken-all}
 use Rattle.words_images.proofs.from_file.Statement.{statement}

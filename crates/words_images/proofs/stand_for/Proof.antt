@@ -4,7 +4,7 @@ use mathlib.Core.Path.{refl, sym, _∙_}
 use Prim.Native.Nat.{_-_}
 use native.Mathlib.Omega.{arith}
 use Rattle.bits.proofs.Decide.{clash}
-use Rattle.words.specs.Words.{partOf}
+use Rattle.map.specs.Map.{partOf}
 use Rattle.words.proofs.Sound.{sound}
 use Rattle.words.proofs.Images.{Laid, laid-none, laid-next, laid-all, entry-same}
 use Rattle.words_rows.proofs.Taken.{word-there}

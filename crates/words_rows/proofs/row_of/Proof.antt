@@ -2,8 +2,7 @@
 use borrow.Author.Needs.{needs}
 use mathlib.Core.Path.{sym, ap, _∙_}
 use Prim.Native.Nat.{ℕ}
-use Rattle.map.specs.Map.{Part}
-use Rattle.words.specs.Words.{partOf}
+use Rattle.map.specs.Map.{Part, partOf}
 use Rattle.words_rows.specs.Rows.{rowAt}
 use Rattle.words_rows.proofs.Taken.{sister}
 use Rattle.words_rows.proofs.row_of.Statement.{statement}

@@ -1,6 +1,6 @@
 -- `words_views::high`: pin by pin (`high-read`). Assumes nothing.
 use borrow.Author.Needs.{needs}
-use Rattle.words.specs.Words.{partOf}
+use Rattle.map.specs.Map.{partOf}
 use Rattle.words.proofs.Sound.{sound}
 use Rattle.words.proofs.Seen.{high-read}
 use Rattle.words_views.proofs.high.Statement.{statement}

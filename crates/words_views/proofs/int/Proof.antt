@@ -1,6 +1,7 @@
 -- `words_views::int`: the line that is kept right is INT's (`line-right`). Assumes nothing.
 use borrow.Author.Needs.{needs}
-use Rattle.words.specs.Words.{partOf, coreIn, interruptIn}
+use Rattle.map.specs.Map.{partOf}
+use Rattle.words.specs.Words.{coreIn, interruptIn}
 use Rattle.registers.proofs.Kept.{line-right}
 use Rattle.words_views.proofs.int.Statement.{statement}
 use Rattle.words_views.proofs.int.Tie as tie

@@ -3,7 +3,7 @@ use borrow.Author.Needs.{needs}
 use mathlib.Core.Path.{ap₂}
 use Prim.Native.Nat.{ℕ}
 use lib.ListN.{set}
-use Rattle.words.specs.Words.{partOf}
+use Rattle.map.specs.Map.{partOf}
 use Rattle.words.proofs.Sound.{sound}
 use Rattle.words.proofs.Seen.{status-worked, line-worked}
 use Rattle.words_views.proofs.keep.Statement.{statement}

@@ -1,6 +1,6 @@
 -- `words_views::low`: pin by pin (`low-read`). Assumes nothing.
 use borrow.Author.Needs.{needs}
-use Rattle.words.specs.Words.{partOf}
+use Rattle.map.specs.Map.{partOf}
 use Rattle.words.proofs.Sound.{sound}
 use Rattle.words.proofs.Seen.{low-read}
 use Rattle.words_views.proofs.low.Statement.{statement}

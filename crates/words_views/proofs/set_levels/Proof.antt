@@ -5,7 +5,7 @@ use Rattle.bits.specs.Bits.{bit}
 use Rattle.pins.specs.Pin.{levelTo}
 use Rattle.pins.specs.AllPins.{mapPins, sourceAt}
 use Rattle.pins.specs.declared.Sets.{Sets}
-use Rattle.words.specs.Words.{partOf}
+use Rattle.map.specs.Map.{partOf}
 use Rattle.words.proofs.Sound.{sound}
 use Rattle.words.proofs.Holding.{within}
 use Rattle.words.proofs.Seen.{levels-moved}

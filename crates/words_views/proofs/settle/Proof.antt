@@ -8,8 +8,8 @@ use Rattle.pins.specs.Pin.{only, inputFetched}
 use Rattle.pins.specs.AllPins.{mapPins}
 use Rattle.pins.specs.declared.Sets.{Sets}
 use Rattle.ports.specs.Ports.{inPort}
+use Rattle.map.specs.Map.{partOf}
 use Rattle.map.specs.Map.Kind.{Input}
-use Rattle.words.specs.Words.{partOf}
 use Rattle.words.proofs.Sound.{sound}
 use Rattle.words.proofs.Holding.{within}
 use Rattle.words.proofs.Seen.{input-fetched, other-fetched}

@@ -6,10 +6,10 @@ use native.Mathlib.Omega.{arith}
 use borrow.Author.Tests.{ne-eqb}
 use lib.Dec.{eqb}
 use Rattle.pins.specs.OnePin.{inputOf}
-use Rattle.map.specs.Map.{Kind, code}
+use Rattle.map.specs.Map.{Kind, code, partOf}
 use Rattle.map.specs.Map.Kind.{Input, Status, InputStatus}
 use Rattle.registers.specs.Registers.{onePin, shownAs}
-use Rattle.words.specs.Words.{partOf, coreIn}
+use Rattle.words.specs.Words.{coreIn}
 use Rattle.words.proofs.Sound.{sound}
 use Rattle.words.proofs.Showing.{input-read, entry-shown, shown-port, shown-else, shown-status}
 use Rattle.words_rows.proofs.Taken.{known-small, its-kind, paired-by, low-rule}

@@ -6,8 +6,8 @@ use Prim.Native.Nat.{ℕ, _<_}
 use native.Mathlib.Omega.{arith}
 use lib.Bits.{bitAnd}
 use Rattle.ports.specs.Ports.{inEdge, fallingBit}
-use Rattle.map.specs.Map.{roomAt}
-use Rattle.words.specs.Words.{partOf, digitAt}
+use Rattle.map.specs.Map.{roomAt, partOf}
+use Rattle.words.specs.Words.{digitAt}
 use Rattle.words.proofs.Sound.{sound, room-is}
 use Rattle.words.proofs.Existing.{field-exists}
 use Rattle.words_rows.proofs.Taken.{known-small}

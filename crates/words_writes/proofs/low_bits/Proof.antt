@@ -12,8 +12,8 @@ use lib.Dec.{ltb}
 use Rattle.bits.specs.Bits.{bit}
 use lib.Bits.{bitAnd}
 use Rattle.ports.specs.Ports.{inEdge, risingBit}
-use Rattle.map.specs.Map.{roomAt}
-use Rattle.words.specs.Words.{partOf, digitAt}
+use Rattle.map.specs.Map.{roomAt, partOf}
+use Rattle.words.specs.Words.{digitAt}
 use Rattle.words.proofs.Sound.{sound, room-is}
 use Rattle.words.proofs.Existing.{field-exists}
 use Rattle.words_rows.proofs.Taken.{known-small}

@@ -5,8 +5,8 @@ use mathlib.Core.Bool.{_&&_}
 use Prim.Native.Nat.{ℕ, _<_}
 use lib.Bits.{bitAnd}
 use Rattle.ports.specs.Ports.{inPort, portBit}
-use Rattle.map.specs.Map.{roomAt}
-use Rattle.words.specs.Words.{partOf, slotAt, digitAt, wideOf}
+use Rattle.map.specs.Map.{roomAt, partOf}
+use Rattle.words.specs.Words.{slotAt, digitAt, wideOf}
 use Rattle.words.proofs.Sound.{sound, room-is}
 use Rattle.words.proofs.Existing.{port-exists}
 use Rattle.words_rows.proofs.Taken.{known-small}

@@ -6,8 +6,9 @@ use Prim.Native.Nat.{_<_}
 use native.Mathlib.Omega.{arith}
 use borrow.Author.Tests.{le-ltb}
 use lib.Dec.{eqb}
+use Rattle.map.specs.Map.{partOf}
 use Rattle.map.specs.Map.Kind.{Edge}
-use Rattle.words.specs.Words.{partOf, paired}
+use Rattle.words.specs.Words.{paired}
 use Rattle.words.proofs.Sound.{sound}
 use Rattle.words_rows.proofs.Taken.{its-word, stored-by, paired-by, rule-strength, stored-rule, stored-known, numbered-inside}
 use Rattle.words_writes.proofs.Wrote.{byte-kept, pair-kept, nothing-kept}

@@ -7,9 +7,9 @@ use Rattle.pins.specs.Pin.{edgeWritten}
 use Rattle.pins.specs.OnePin.{pinAfter}
 use Rattle.pins.specs.OnePin.Happening.{EdgeWritten}
 use Rattle.ports.specs.Ports.{risingBit, fallingBit}
+use Rattle.map.specs.Map.{partOf}
 use Rattle.map.specs.Map.Kind.{Edge}
 use Rattle.registers.specs.Registers.{writtenTo}
-use Rattle.words.specs.Words.{partOf}
 use Rattle.words.proofs.Sound.{sound}
 use Rattle.words.proofs.Holding.{within}
 use Rattle.words_rows.proofs.Taken.{known-small, stored-by, paired-by, its-kind, its-word}

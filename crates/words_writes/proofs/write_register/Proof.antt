@@ -12,9 +12,10 @@ use Rattle.pins.specs.Pin.{clearWritten, maskWritten, latchWritten, configurati
 use Rattle.pins.specs.OnePin.{pinAfter}
 use Rattle.pins.specs.OnePin.Happening.{ClearWritten, MaskWritten, LatchWritten, ConfigurationWritten}
 use Rattle.ports.specs.Ports.{portBit}
+use Rattle.map.specs.Map.{partOf}
 use Rattle.map.specs.Map.Kind.{Configuration, Latch, Mask, Clear}
 use Rattle.registers.specs.Registers.{writtenTo}
-use Rattle.words.specs.Words.{partOf, paired}
+use Rattle.words.specs.Words.{paired}
 use Rattle.words.proofs.Sound.{sound}
 use Rattle.words.proofs.Holding.{within}
 use Rattle.words_rows.proofs.Taken.{known-small, stored-by, still-by, paired-by, its-kind, stored-rule, still-rule, known-inside}

@@ -2,7 +2,7 @@
 use borrow.Author.Needs.{needs}
 use mathlib.Core.Path.{refl, sym}
 use Prim.Native.Nat.{_<_}
-use Rattle.words.specs.Words.{partOf}
+use Rattle.map.specs.Map.{partOf}
 use Rattle.words.proofs.Sound.{sound}
 use Rattle.words_rows.proofs.Taken.{known-small, rule-strength, stored-by, still-by, paired-by}
 use Rattle.words_writes.proofs.Wrote.{pair-wrote}
