@@ -9,7 +9,6 @@ ghost use Rattle.text_answers.specs.Answers.{refusedLine};
 ghost use Rattle.planner_promise.specs.Promise.{refusalOf, countOf};
 ghost use Rattle.plan_lines.specs.Asks.{byteTaken, digitTaken, withDigit, taken, lineRefusal, Holds, Said};
 ghost use Rattle.plan_lines.specs.Told.{writeText, pairsText, planLine, plannedText, Tells};
-use device_rules::Answer;
 use planner_promise::Planned;
 
 // One field of the line: its first ten bytes, how many there are (11 for more), the digit that waits (16 for none).
@@ -156,7 +155,7 @@ pub fn put_refusal(out: &mut [u8], at: usize, number: u8) -> usize
     requires { ⌜ at + 26 ≤ length (now out) ⌝ }
     ensures { λ r. ⌜ Wrote (now (out .entry)) at (refusedLine number) r (now (out .exit)) × (r ≤ at + 26) ⌝ }
 {
-    text_answers::put_line(out, at, Answer::Refused(number), false, 0, 0)
+    text_answers::put_refused(out, at, number)
 }
 
 fn put_write(out: &mut [u8], at: usize, register: u8, value: u8) -> usize

@@ -42,13 +42,13 @@ image-text s =
 -- ---- an answer by the words that the image was packed into: a refusal shows nothing of them
 module _ {s : State} {fits : Bool} {v w : List ℕ} (p : Packs 0 s fits v w) (int : Bool) (low high : ℕ) (i : interruptIn w ≡ workedOut part24 (coreIn part24 w) → int ≡ intAsserted part24 (coreIn part24 w))
     (l : low ≡ drivenLow part24 (coreIn part24 w)) (h : Fit part24 w → high ≡ drivenHigh part24 (coreIn part24 w)) where
-  fitting-text : (a : Answer) → imageFits part24 s ≡ true → answerText a int low high ≡ shownText (outcome a s)
+  fitting-text : (a : Answer) → imageFits part24 s ≡ true → answerText part24 a int low high ≡ shownText part24 (outcome a s)
   fitting-text a e =
       let k = p .packed (p .judged ∙ e) in
-      told-text a s int low high (i (k .0 .right) ∙ ap (λ (x : State). intAsserted part24 (x .regs)) (k .1)) (l ∙ ap (λ (x : State). drivenLow part24 (x .regs)) (k .1))
+      told-text part24 a s int low high (i (k .0 .right) ∙ ap (λ (x : State). intAsserted part24 (x .regs)) (k .1)) (l ∙ ap (λ (x : State). drivenLow part24 (x .regs)) (k .1))
       (h (k .0 .fit) ∙ ap (λ (x : State). drivenHigh part24 (x .regs)) (k .1))
 
-  pub words-text : (a : Answer) → (refusalNumber a ≡ 0 → imageFits part24 s ≡ true) → answerText a int low high ≡ shownText (outcome a s)
+  pub words-text : (a : Answer) → (refusalNumber a ≡ 0 → imageFits part24 s ≡ true) → answerText part24 a int low high ≡ shownText part24 (outcome a s)
   unfolding answerText shownText
   words-text Nothing f = fitting-text Nothing (f refl)
   words-text Ack f = fitting-text Ack (f refl)
@@ -57,14 +57,14 @@ module _ {s : State} {fits : Bool} {v w : List ℕ} (p : Packs 0 s fits v w) (in
   words-text (Refused n) f = refl
 
 -- ---- the answer
-module _ (answer : Answer) (s : State) {out middle left : List ℕ} {at end last : ℕ} (told : Wrote out at (shownText (outcome answer s)) end middle) where
+module _ (answer : Answer) (s : State) {out middle left : List ℕ} {at end last : ℕ} (told : Wrote out at (shownText part24 (outcome answer s)) end middle) where
   pub line-answered : OneOf (0 ∷ 1 ∷ 2 ∷ 3 ∷ []) (tagOf the-type answer) → {shown : List ℕ} {after : ℕ} → Wrote middle end (imageText s) after shown
       → Wrote shown after newline last left → Wrote out at (probeLine (outcome answer s)) last left
   unfolding probeLine
   line-answered k image ended =
-      wrote-as (ap (λ (x : List ℕ). shownText (outcome answer s) ++ (x ++ newline)) (answered answer k (imageText s))) (wrote-both told (wrote-both image ended))
+      wrote-as (ap (λ (x : List ℕ). shownText part24 (outcome answer s) ++ (x ++ newline)) (answered answer k (imageText s))) (wrote-both told (wrote-both image ended))
 
   pub line-refused : {n : ℕ} → answer ≡ Refused n → Wrote middle end newline last left → Wrote out at (probeLine (outcome answer s)) last left
   unfolding probeLine
   line-refused e ended =
-      wrote-as (ap (λ (a : Answer). shownText (outcome answer s) ++ (unlessRefused a (imageText s) ++ newline)) (sym e)) (wrote-both told ended)
+      wrote-as (ap (λ (a : Answer). shownText part24 (outcome answer s) ++ (unlessRefused a (imageText s) ++ newline)) (sym e)) (wrote-both told ended)

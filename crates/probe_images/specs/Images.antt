@@ -38,7 +38,7 @@ imageText s =
 -- ---- the answer
 -- as a trace tells the event; then the image after it, which no refusal has, and the newline
 unfoldable pub probeLine : Outcome → List ℕ
-probeLine o = shownText o ++ (unlessRefused (o .answer) (imageText (o .after)) ++ newline)
+probeLine o = shownText part24 o ++ (unlessRefused (o .answer) (imageText (o .after)) ++ newline)
 
 -- One step on the image that a line says; refusal 7 where it is not readable.
 unfoldable pub probeText : (line : List ℕ) → List ℕ

@@ -73,7 +73,7 @@ fn put_image(out: &mut [u8], at: usize, d: Device) -> usize
 // The text with which a trace tells an answer. A refusal's shows nothing of the device, whose image may be a broken one.
 fn put_answer(out: &mut [u8], at: usize, d: Device, answer: Answer) -> usize
     requires { ⌜ (refusalNumber answer ≡ 0 → imageFits part24 (stateIn d) ≡ true) × (at + 25 ≤ length (now out)) ⌝ }
-    ensures { λ r. ⌜ Wrote (now (out .entry)) at (shownText (outcome answer (stateIn d))) r (now (out .exit)) × (r ≤ at + 19) ⌝ }
+    ensures { λ r. ⌜ Wrote (now (out .entry)) at (shownText part24 (outcome answer (stateIn d))) r (now (out .exit)) × (r ≤ at + 19) ⌝ }
 {
     let file = d.file;
     let pointer = d.pointer as u64;
@@ -95,7 +95,7 @@ fn put_answer(out: &mut [u8], at: usize, d: Device, answer: Answer) -> usize
     let int = words_views::int(&words);
     let low = words_views::low(&words, PINS24);
     let high = words_views::high(&words);
-    text_answers::put_answer(out, at, answer, int, low, high)
+    text_answers::put_answer(out, at, 0, answer, int, low, high)
 }
 
 // The answer, and behind it the image after the step; a refusal has no image.
@@ -117,7 +117,7 @@ pub fn answer_line(line: &[u8], out: &mut [u8], at: usize) -> usize
     ensures { λ r. ⌜ Wrote (now (out .entry)) at (probeText (now (line .entry))) r (now (out .exit)) × (r ≤ at + 380) ⌝ }
 {
     if !probe_fields::is_readable(line) {
-        return text_answers::put_line(out, at, Answer::Refused(UNREADABLE), false, 0, 0);
+        return text_answers::put_refused(out, at, UNREADABLE);
     }
     let s = step_in(line);
     let answer = s.answer;

@@ -73,14 +73,6 @@ pair-second = each 256 _ _ tt
 pub pair-fits : (b : ℕ) → (lettered b < 2 ^ 64) × (paired b < 2 ^ 64)
 pair-fits b = let h = and-le-r ((b / 16 % 16 + 256 * (b % 16) + 0x606) / 16) 0x101 in (omega arith, omega arith)
 
--- the digits of a number's lowest byte
-module _ (n : ℕ) where
-  pub byte-first : digitByte (n % 256 / 16 % 16) ≡ digitByte (n / 16 % 16)
-  byte-first = let e : n % 256 / 16 % 16 ≡ n / 16 % 16 = omega arith in ap digitByte e
-
-  pub byte-second : digitByte (n % 256 % 16) ≡ digitByte (n % 16)
-  byte-second = let e : n % 256 % 16 ≡ n % 16 = omega arith in ap digitByte e
-
 -- a run of stores, then another from where it ended
 sets-append : (out : List ℕ) (at : ℕ) (s t : List ℕ) → sets (sets out at s) (at + length s) t ≡ sets out at (s ++ t)
 sets-append out at [] t = ap (λ (k : ℕ). sets out k t) (omega arith)

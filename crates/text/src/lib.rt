@@ -118,22 +118,6 @@ pub fn hex2(n: u8) -> [u8; 2]
     [(p % 256) as u8, (p / 256 % 256) as u8]
 }
 
-pub fn hex6(n: u64) -> [u8; 6]
-    ensures { λ r. ⌜ r ≡ hexText 6 n ⌝ }
-{
-    let first = pair((n / 16 / 16 / 16 / 16 % 256) as u8);
-    let second = pair((n / 16 / 16 % 256) as u8);
-    let third = pair((n % 256) as u8);
-    [
-        (first % 256) as u8,
-        (first / 256 % 256) as u8,
-        (second % 256) as u8,
-        (second / 256 % 256) as u8,
-        (third % 256) as u8,
-        (third / 256 % 256) as u8,
-    ]
-}
-
 // The lowest digit of a wider number.
 fn low_digit(n: u64) -> u8
     ensures { λ r. ⌜ r ≡ digitByte (n % 16) ⌝ }

@@ -7,13 +7,15 @@ fn write_header() {
     io::write_all(STDOUT_FILENO, &out[0..end]);
 }
 
-// The answers' room is 20 bytes for each byte of a piece, and 6 more.
+// The answers' room is 26 bytes for each byte of a piece: no line is longer.
 fn main() {
     let mut piece = [0u8; 16384];
-    let mut out = [0u8; 327_686];
+    let mut out = [0u8; 425_984];
     let rows = words_rows::rows24();
     let next = map::next24();
     let mut words = trace_logs::start();
+    let mut told = [0u64; 5];
+    let mut kept = [0u8; 22];
     let mut held = [0u8; 33];
     let mut len = 0;
     write_header();
@@ -23,7 +25,17 @@ fn main() {
         let got = libc::read(0, &mut piece);
         let n = io::count(got, &piece);
         if n == 0 {
-            let end = trace_logs::finish(&mut words, &rows, &next, &held, len, &mut out, 0);
+            let end = trace_logs::finish(
+                &mut words,
+                &rows,
+                &next,
+                &mut told,
+                &mut kept,
+                &held,
+                len,
+                &mut out,
+                0,
+            );
             io::write_all(STDOUT_FILENO, &out[0..end]);
             return;
         }
@@ -31,6 +43,8 @@ fn main() {
             &mut words,
             &rows,
             &next,
+            &mut told,
+            &mut kept,
             &mut held,
             len,
             &piece[0..n],

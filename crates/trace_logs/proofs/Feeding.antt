@@ -89,14 +89,14 @@ module _ (words held : List ℕ) (len : ℕ) where
       }
 
 -- ---- the loop over a piece's lines
-first-short : (r : Reading) (piece : List ℕ) → length (firstGiven r piece .text) ≤ 20
+first-short : (r : Reading) (piece : List ℕ) → length (firstGiven r piece .text) ≤ 26
 unfolding firstGiven
 first-short r piece = go (ltb (newlineAt piece) (length piece))
   where
     line : Reading
     line = grown r (take (newlineAt piece) piece)
 
-    go : (t : Bool) → length (cond t (ended line) (record { text = []; after = grown r piece }) .text) ≤ 20
+    go : (t : Bool) → length (cond t (ended line) (record { text = []; after = grown r piece }) .text) ≤ 26
     go true = traced-short (line .session) (lineOf (line .begun))
     go false = omega arith
 
@@ -123,7 +123,7 @@ pub record Onward (words₀ held₀ : List ℕ) (len₀ : ℕ) (piece out₀ : L
   pub kept : Kept words
   pub untouched : eqb (getD words partWord 0) 0 ≡ false → words ≡ words₀
   pub long : length out ≡ length out₀
-  pub room : end + 20 * length rest + 6 ≤ length out
+  pub room : end + 26 * length rest ≤ length out
   pub writes : {last : ℕ} {left : List ℕ} → Wrote out end (given (readingOf words held len) rest .text) last left → Wrote out₀ at (given (readingOf words₀ held₀ len₀) piece .text) last left
   pub goes-to : given (readingOf words held len) rest .after ≡ given (readingOf words₀ held₀ len₀) piece .after
   pub holds : heldAfter held len [] rest ≡ heldAfter held₀ len₀ [] piece
@@ -132,7 +132,7 @@ begun-small : (words held : List ℕ) (len : ℕ) → len ≤ 33 → length (rea
 begun-small words held len h = omega (arith, length-take len held)
 
 module _ {piece out₀ : List ℕ} {at : ℕ} where
-  pub onward-start : (words held : List ℕ) (len : ℕ) → len ≤ 33 → length held ≡ 33 → Kept words → at + 20 * length piece + 6 ≤ length out₀
+  pub onward-start : (words held : List ℕ) (len : ℕ) → len ≤ 33 → length held ≡ 33 → Kept words → at + 26 * length piece ≤ length out₀
       → Onward words held len piece out₀ at out₀ piece words held len at
   onward-start words held len h whole kept room = record { small = h; whole = whole; kept = kept; untouched = λ h. refl; long = refl; room = room; writes = λ w. w; goes-to = refl; holds = refl }
 

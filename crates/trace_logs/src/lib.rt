@@ -6,7 +6,7 @@ ghost use lib.ListN.{length, drop};
 ghost use Rattle.map.specs.Map.{part24, Stepping};
 ghost use Rattle.words_rows.specs.Rows.{Rowed};
 ghost use Rattle.text.specs.Text.{Wrote};
-ghost use Rattle.trace_session.specs.Tracing.{Kept, Says};
+ghost use Rattle.trace_session.specs.Tracing.{Kept, Says, Beside};
 ghost use Rattle.trace_logs.specs.Logs.{header};
 ghost use Rattle.text_pieces.specs.Pieces.{takenOf};
 ghost use Rattle.trace_logs.specs.Pieces.{readingOf, opened, grown, answerOf, given, firstGiven, overlaid, heldAtEnd, heldAfter, Gives, Ends};
@@ -31,19 +31,23 @@ fn joined_line(
     words: &mut [u64; 28],
     rows: &[u32; 128],
     next: &[u8; 128],
+    told: &mut [u64; 5],
+    kept: &mut [u8; 22],
     held: &mut [u8; 33],
     len: usize,
     part: &[u8],
     out: &mut [u8],
     at: usize,
 ) -> usize
-    requires { ⌜ Kept (now words) × (len ≤ 33) × (length (now held) ≡ 33) × (at + 26 ≤ length (now out)) × Rowed part24 (now rows) × Stepping part24 (now next) ⌝ }
+    requires { ⌜ Kept (now words) × (len ≤ 33) × (length (now held) ≡ 33) × (at + 26 ≤ length (now out)) × Rowed part24 (now rows) × Stepping part24 (now next)
+        × Beside (now words) (now told) (now kept) ⌝ }
     ensures { λ end. ⌜ Says (answerOf (grown (readingOf (now (words .entry)) (now (held .entry)) len) (now (part .entry)))) (now (words .entry)) (now (out .entry)) at end (now (out .exit)) (now (words .exit))
-        × (length (now (held .exit)) ≡ 33) × (now (held .exit) ≡ overlaid (now (held .entry)) len (now (part .entry))) ⌝ }
+        × (length (now (held .exit)) ≡ 33) × (now (held .exit) ≡ overlaid (now (held .entry)) len (now (part .entry)))
+        × Beside (now (words .exit)) (now (told .exit)) (now (kept .exit)) ⌝ }
 {
     let all = grow(held, len, part);
     let bytes = *held;
-    trace_session::answer_line(words, rows, next, &bytes[0..all], out, at)
+    trace_session::answer_line(words, rows, next, told, kept, &bytes[0..all], out, at)
 }
 
 // The same; a line that lies whole in the piece is read where it lies.
@@ -51,20 +55,24 @@ fn end_line(
     words: &mut [u64; 28],
     rows: &[u32; 128],
     next: &[u8; 128],
+    told: &mut [u64; 5],
+    kept: &mut [u8; 22],
     held: &mut [u8; 33],
     len: usize,
     part: &[u8],
     out: &mut [u8],
     at: usize,
 ) -> usize
-    requires { ⌜ Kept (now words) × (len ≤ 33) × (length (now held) ≡ 33) × (at + 26 ≤ length (now out)) × Rowed part24 (now rows) × Stepping part24 (now next) ⌝ }
+    requires { ⌜ Kept (now words) × (len ≤ 33) × (length (now held) ≡ 33) × (at + 26 ≤ length (now out)) × Rowed part24 (now rows) × Stepping part24 (now next)
+        × Beside (now words) (now told) (now kept) ⌝ }
     ensures { λ end. ⌜ Says (answerOf (grown (readingOf (now (words .entry)) (now (held .entry)) len) (now (part .entry)))) (now (words .entry)) (now (out .entry)) at end (now (out .exit)) (now (words .exit))
-        × (length (now (held .exit)) ≡ 33) × (now (held .exit) ≡ heldAtEnd (now (held .entry)) len (now (part .entry))) ⌝ }
+        × (length (now (held .exit)) ≡ 33) × (now (held .exit) ≡ heldAtEnd (now (held .entry)) len (now (part .entry)))
+        × Beside (now (words .exit)) (now (told .exit)) (now (kept .exit)) ⌝ }
 {
     if len == 0 {
-        return trace_session::answer_line(words, rows, next, part, out, at);
+        return trace_session::answer_line(words, rows, next, told, kept, part, out, at);
     }
-    joined_line(words, rows, next, held, len, part, out, at)
+    joined_line(words, rows, next, told, kept, held, len, part, out, at)
 }
 
 // How many bytes are held after a line, where its answer ends, and how much of the piece it took.
@@ -79,16 +87,20 @@ fn first_line(
     words: &mut [u64; 28],
     rows: &[u32; 128],
     next: &[u8; 128],
+    told: &mut [u64; 5],
+    kept: &mut [u8; 22],
     held: &mut [u8; 33],
     len: usize,
     piece: &[u8],
     out: &mut [u8],
     at: usize,
 ) -> Took
-    requires { ⌜ Kept (now words) × (len ≤ 33) × (length (now held) ≡ 33) × (at + 26 ≤ length (now out)) × Rowed part24 (now rows) × Stepping part24 (now next) ⌝ }
+    requires { ⌜ Kept (now words) × (len ≤ 33) × (length (now held) ≡ 33) × (at + 26 ≤ length (now out)) × Rowed part24 (now rows) × Stepping part24 (now next)
+        × Beside (now words) (now told) (now kept) ⌝ }
     ensures { λ t. ⌜ Gives (firstGiven (readingOf (now (words .entry)) (now (held .entry)) len) (now (piece .entry))) (now (words .entry)) (now (out .entry)) at (t .end) (now (out .exit)) (now (words .exit)) (now (held .exit)) (t .len)
         × (t .taken ≡ takenOf (now (piece .entry)))
-        × (heldAfter (now (held .exit)) (t .len) [] (drop (t .taken) (now (piece .entry))) ≡ heldAfter (now (held .entry)) len [] (now (piece .entry))) ⌝ }
+        × (heldAfter (now (held .exit)) (t .len) [] (drop (t .taken) (now (piece .entry))) ≡ heldAfter (now (held .entry)) len [] (now (piece .entry)))
+        × Beside (now (words .exit)) (now (told .exit)) (now (kept .exit)) ⌝ }
 {
     let line = text_pieces::first_line(piece);
     let part = line.len;
@@ -101,7 +113,18 @@ fn first_line(
             taken,
         };
     }
-    let end = end_line(words, rows, next, held, len, &piece[0..part], out, at);
+    let end = end_line(
+        words,
+        rows,
+        next,
+        told,
+        kept,
+        held,
+        len,
+        &piece[0..part],
+        out,
+        at,
+    );
     Took { len: 0, end, taken }
 }
 
@@ -110,21 +133,25 @@ pub fn feed(
     words: &mut [u64; 28],
     rows: &[u32; 128],
     next: &[u8; 128],
+    told: &mut [u64; 5],
+    kept: &mut [u8; 22],
     held: &mut [u8; 33],
     len: usize,
     piece: &[u8],
     out: &mut [u8],
     at: usize,
 ) -> Fed
-    requires { ⌜ Kept (now words) × (len ≤ 33) × (length (now held) ≡ 33) × (at + 20 * length (now piece) + 6 ≤ length (now out)) × Rowed part24 (now rows) × Stepping part24 (now next) ⌝ }
+    requires { ⌜ Kept (now words) × (len ≤ 33) × (length (now held) ≡ 33) × (at + 26 * length (now piece) ≤ length (now out)) × Rowed part24 (now rows) × Stepping part24 (now next)
+        × Beside (now words) (now told) (now kept) ⌝ }
     ensures { λ f. ⌜ Gives (given (readingOf (now (words .entry)) (now (held .entry)) len) (now (piece .entry))) (now (words .entry)) (now (out .entry)) at (f .end) (now (out .exit)) (now (words .exit)) (now (held .exit)) (f .len)
-        × (f .end ≤ length (now (out .exit))) × (now (held .exit) ≡ heldAfter (now (held .entry)) len [] (now (piece .entry))) ⌝ }
+        × (f .end ≤ length (now (out .exit))) × (now (held .exit) ≡ heldAfter (now (held .entry)) len [] (now (piece .entry)))
+        × Beside (now (words .exit)) (now (told .exit)) (now (kept .exit)) ⌝ }
 {
     let mut rest = piece;
     let mut count = len;
     let mut end = at;
     while 0 < rest.len() {
-        let took = first_line(words, rows, next, held, count, rest, out, end);
+        let took = first_line(words, rows, next, told, kept, held, count, rest, out, end);
         let taken = took.taken;
         count = took.len;
         end = took.end;
@@ -135,7 +162,7 @@ pub fn feed(
 
 // Words before a log: no device yet.
 pub fn start() -> [u64; 28]
-    ensures { λ w. ⌜ ((held : List ℕ) → readingOf w held 0 ≡ opened) × Kept w ⌝ }
+    ensures { λ w. ⌜ ((held : List ℕ) → readingOf w held 0 ≡ opened) × Kept w × ((told kept : List ℕ) → length kept ≡ 22 → Beside w told kept) ⌝ }
 {
     let mut words = [0u64; 28];
     words[words::PART] = trace_session::NO_PART;
@@ -155,17 +182,21 @@ pub fn finish(
     words: &mut [u64; 28],
     rows: &[u32; 128],
     next: &[u8; 128],
+    told: &mut [u64; 5],
+    kept: &mut [u8; 22],
     held: &[u8],
     len: usize,
     out: &mut [u8],
     at: usize,
 ) -> usize
-    requires { ⌜ Kept (now words) × (len ≤ length (now held)) × (at + 26 ≤ length (now out)) × Rowed part24 (now rows) × Stepping part24 (now next) ⌝ }
-    ensures { λ end. ⌜ Ends (readingOf (now (words .entry)) (now (held .entry)) len) (now (words .entry)) (now (out .entry)) at end (now (out .exit)) (now (words .exit)) ⌝ }
+    requires { ⌜ Kept (now words) × (len ≤ length (now held)) × (at + 26 ≤ length (now out)) × Rowed part24 (now rows) × Stepping part24 (now next)
+        × Beside (now words) (now told) (now kept) ⌝ }
+    ensures { λ end. ⌜ Ends (readingOf (now (words .entry)) (now (held .entry)) len) (now (words .entry)) (now (out .entry)) at end (now (out .exit)) (now (words .exit))
+        × Beside (now (words .exit)) (now (told .exit)) (now (kept .exit)) ⌝ }
 {
     let line = &held[0..len];
     if line.len() == 0 {
         return at;
     }
-    trace_session::answer_line(words, rows, next, line, out, at)
+    trace_session::answer_line(words, rows, next, told, kept, line, out, at)
 }

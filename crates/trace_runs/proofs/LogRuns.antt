@@ -36,7 +36,7 @@ events-seen s [] (e ∷ es) says = absurd says
 events-seen s (l ∷ lines) [] says = absurd says
 events-seen s (l ∷ lines) (e ∷ es) says =
     ap (λ (x : Line). traced (With s) x .line ++ answersFrom (traced (With s) x .after) lines) (says .0)
-    ∙ ap (λ (t : List ℕ). shownLine (stepped part24 s (e .kind) (e .arg)) ++ t) (events-seen (stepped part24 s (e .kind) (e .arg) .after) lines es (says .1))
+    ∙ ap (λ (t : List ℕ). shownLine part24 (stepped part24 s (e .kind) (e .arg)) ++ t) (events-seen (stepped part24 s (e .kind) (e .arg) .after) lines es (says .1))
 
 -- a log whose first line makes a device, and whose other lines are events, is answered by the header and the lines of the run from that power-on
 pub log-run : (log first : List ℕ) (lines : List (List ℕ)) (choice levels : ℕ) (es : List Asked) → linesOf [] log ≡ first ∷ lines → lineOf first ≡ Device choice levels → SayEvents lines es
@@ -45,7 +45,7 @@ unfolding answersOf answersFrom seenLines traced shownLine shownText answerLine
 log-run log first lines choice levels es all made says =
     ap (λ (x : List (List ℕ)). header ++ answersFrom NoDevice x) all
     ∙ ap (λ (x : Line). header ++ (traced NoDevice x .line ++ answersFrom (traced NoDevice x .after) lines)) made
-    ∙ ap (λ (t : List ℕ). header ++ (shownLine (out Nothing (powerOn part24 choice levels)) ++ t)) (events-seen (powerOn part24 choice levels) lines es says)
+    ∙ ap (λ (t : List ℕ). header ++ (shownLine part24 (out Nothing (powerOn part24 choice levels)) ++ t)) (events-seen (powerOn part24 choice levels) lines es says)
 
 -- ---- refusals
 abbrev Fine : Session → Type 0

@@ -3,6 +3,7 @@ use mathlib.Core.Path.{_≡_}
 use mathlib.Core.List.{List, [], _∷_, _++_}
 use mathlib.Core.Logic.{_⊎_}
 use Prim.Native.Nat.{ℕ}
+use Rattle.map.specs.Map.{part24}
 use Rattle.device_rules.specs.Device.{Outcome}
 use Rattle.device_rules.specs.Answers.{refusalNumber}
 use Rattle.device_demands.specs.Run.{Asked, Seen}
@@ -14,7 +15,7 @@ use Rattle.trace_session.specs.Tracing.{Session, traced}
 -- what is seen, as lines: answer, INT, pins driven low, pins driven high
 unfoldable pub seenLines : List Seen → List ℕ
 seenLines [] = []
-seenLines (x ∷ xs) = answerLine (x .answer) (x .int) (x .low) (x .high) ++ seenLines xs
+seenLines (x ∷ xs) = answerLine part24 (x .answer) (x .int) (x .low) (x .high) ++ seenLines xs
 
 -- lines that say these events, one a line
 abbrev pub SayEvents : (lines : List (List ℕ)) → List Asked → Type 0
@@ -25,7 +26,7 @@ SayEvents (l ∷ lines) (e ∷ es) = (lineOf l ≡ Event (e .kind) (e .arg)) × 
 
 -- a line of answers: refusal 7, or what is seen after an event that was not refused
 abbrev pub Answered : List ℕ → Type 0
-Answered line = (line ≡ refusedLine 7) ⊎ ((o : Outcome) × (refusalNumber (o .answer) ≡ 0) × (line ≡ shownLine o))
+Answered line = (line ≡ refusedLine 7) ⊎ ((o : Outcome) × (refusalNumber (o .answer) ≡ 0) × (line ≡ shownLine part24 o))
 
 -- every line that is answered to these lines
 abbrev pub AllAnswered : Session → (lines : List (List ℕ)) → Type 0

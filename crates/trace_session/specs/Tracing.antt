@@ -4,17 +4,19 @@ use mathlib.Core.Bool.{true, false, cond}
 use mathlib.Core.List.{List}
 use Prim.Native.Nat.{ℕ}
 use lib.Dec.{eqb}
-use lib.ListN.{getD}
-use Rattle.map.specs.Map.{part24}
+use lib.ListN.{length, getD}
+use Rattle.map.specs.Map.{Part, part24, partOf}
+use Rattle.registers.specs.Registers.{intAsserted, drivenLow, drivenHigh}
 use Rattle.device_rules.specs.Device.{State, Outcome, out}
 use Rattle.device_rules.specs.declared.Answer.the-variants.{Nothing}
 use Rattle.device_rules.specs.Refusals.{stepped}
 use Rattle.device_rules.specs.PowerOn.{powerOn}
+use Rattle.words.specs.Words.{coreIn, lineWord, configurationWord, outputWord, portKindWord, pinKindWord}
 use Rattle.words_bus.specs.Packed.{partWord, stateIn, Packed}
 use Rattle.text.specs.Text.{Wrote}
 use Rattle.trace_lines.specs.declared.Line.{Line}
 use Rattle.trace_lines.specs.declared.Line.the-variants.{Device, Event, Unreadable}
-use Rattle.text_answers.specs.Answers.{shownLine, refusedLine}
+use Rattle.text_answers.specs.Answers.{Keeps, shownLine, refusedLine}
 
 -- no device yet, or one in this state
 pub data Session : Type 0 where
@@ -30,8 +32,8 @@ pub record Traced : Type 0 where
   pub line : List ℕ
   pub after : Session
 
-abbrev pub told : Outcome → Traced
-told o = record { line = shownLine o; after = With (o .after) }
+abbrev pub toldBy : Outcome → Traced
+toldBy o = record { line = shownLine part24 o; after = With (o .after) }
 
 -- refusal 7: nothing changes
 abbrev pub unreadable : Session → Traced
@@ -40,13 +42,28 @@ unreadable x = record { line = refusedLine 7; after = x }
 -- An event before a device is unreadable; a device line starts anew.
 unfoldable pub traced : Session → Line → Traced
 traced x Unreadable = unreadable x
-traced x (Device choice levels) = told (out Nothing (powerOn part24 choice levels))
+traced x (Device choice levels) = toldBy (out Nothing (powerOn part24 choice levels))
 traced NoDevice (Event kind arg) = unreadable NoDevice
-traced (With s) (Event kind arg) = told (stepped part24 s kind arg)
+traced (With s) (Event kind arg) = toldBy (stepped part24 s kind arg)
 
 -- a device that the words hold is well formed: nothing of refusal 3 is left to test
 abbrev pub Kept : (words : List ℕ) → Type 0
 Kept w = eqb (getD w partWord 0) 0 ≡ true → Packed 0 w
+
+-- the words that the columns depend on were these when they were told: line, configuration, output, output port kind and pin output kind
+abbrev pub Told : (words told : List ℕ) → Type 0
+Told w told =
+    (getD told 0 0 ≡ getD w lineWord 0) × (getD told 1 0 ≡ getD w configurationWord 0) × (getD told 2 0 ≡ getD w outputWord 0) × (getD told 3 0 ≡ getD w portKindWord 0)
+    × (getD told 4 0 ≡ getD w pinKindWord 0)
+
+-- the text that is kept holds the columns of the device in the words
+abbrev pub KeepsOf : Part → (words kept : List ℕ) → Type 0
+KeepsOf p w kept = Keeps p kept (intAsserted p (coreIn p w)) (drivenLow p (coreIn p w)) (drivenHigh p (coreIn p w))
+
+-- what is lent beside the words: a text with the columns of every device of their part that has the words that were told
+pub record Beside (words told kept : List ℕ) : Type 0 where
+  pub long : length kept ≡ 22
+  pub fresh : (w : List ℕ) → Packed (getD words partWord 0) w → Told w told → KeepsOf (partOf (getD words partWord 0)) w kept
 
 -- the line written from at on, and what the words hold after it; where there is still no device, they are as they were
 pub record Says (t : Traced) (words₀ : List ℕ) (out : List ℕ) (at end : ℕ) (left words : List ℕ) : Type 0 where

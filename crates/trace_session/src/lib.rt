@@ -1,4 +1,6 @@
-// The trace program's work: one line in, one line out, on words that the caller lends.
+// The trace program's work: one line in, one line out, on words that the caller lends, beside them the text of the columns: few events change it.
+ghost use mathlib.Core.Path.{_≡_};
+ghost use mathlib.Core.Bool.{true};
 ghost use Prim.Native.Nat.{_+_, _^_, _<_, _≤_};
 ghost use lib.ListN.{length};
 ghost use Rattle.map.specs.Map.{part24, Stepping};
@@ -6,16 +8,21 @@ ghost use Rattle.words_rows.specs.Rows.{Rowed};
 ghost use Rattle.device_rules.specs.Device.{out as outcome};
 ghost use Rattle.device_rules.specs.declared.Answer.the-variants.{Nothing};
 ghost use Rattle.device_rules.specs.PowerOn.{powerOn};
-ghost use Rattle.words_bus.specs.Packed.{stateIn, Packed};
+ghost use Rattle.words_bus.specs.Packed.{Packed};
 ghost use Rattle.text.specs.Text.{Wrote};
 ghost use Rattle.trace_lines.specs.Lines.{lineOf};
-ghost use Rattle.text_answers.specs.Answers.{shownLine, refusedLine};
-ghost use Rattle.trace_session.specs.Tracing.{sessionOf, traced, told, Kept, Says};
+ghost use Rattle.text_answers.specs.Answers.{refusedLine};
+ghost use Rattle.trace_session.specs.Tracing.{sessionOf, traced, toldBy, Kept, Says, Told, Beside};
 use device_rules::Answer;
 use device_rules::UNREADABLE;
 use map::PINS24;
 use trace_lines::Line;
+use words::CONFIGURATION;
+use words::LINE;
+use words::OUTPUT;
 use words::PART;
+use words::PIN_KIND;
+use words::PORT_KIND;
 
 // The part of words that hold no device yet.
 pub const NO_PART: u64 = 2;
@@ -25,27 +32,74 @@ fn refuse(out: &mut [u8], at: usize) -> usize
     requires { ⌜ at + 26 ≤ length (now out) ⌝ }
     ensures { λ end. ⌜ Wrote (now (out .entry)) at (refusedLine 7) end (now (out .exit)) ⌝ }
 {
-    text_answers::put_line(out, at, Answer::Refused(UNREADABLE), false, 0, 0)
+    text_answers::put_refused(out, at, UNREADABLE)
 }
 
-// The answer of a device that is as it is after it.
-fn tell(words: &[u64; 28], answer: Answer, out: &mut [u8], at: usize) -> usize
-    requires { ⌜ Packed 0 (now words) × (at + 26 ≤ length (now out)) ⌝ }
-    ensures { λ end. ⌜ Wrote (now (out .entry)) at (shownLine (outcome answer (stateIn part24 (now (words .entry))))) end (now (out .exit)) ⌝ }
+// Whether the words that the columns depend on are what they were when the text was written.
+fn is_told(words: &[u64; 28], told: &[u64; 5]) -> bool
+    ensures { λ r. ⌜ (r ≡ true → Told (now (words .entry)) (now (told .entry))) ⌝ }
 {
+    if told[0] != words[LINE] {
+        return false;
+    }
+    if told[1] != words[CONFIGURATION] {
+        return false;
+    }
+    if told[2] != words[OUTPUT] {
+        return false;
+    }
+    if told[3] != words[PORT_KIND] {
+        return false;
+    }
+    told[4] == words[PIN_KIND]
+}
+
+// The text of the columns, written anew.
+fn refresh(words: &[u64; 28], told: &mut [u64; 5], kept: &mut [u8; 22])
+    requires { ⌜ Packed 0 (now words) ⌝ }
+    ensures { λ r. ⌜ Beside (now (words .entry)) (now (told .exit)) (now (kept .exit)) × Told (now (words .entry)) (now (told .exit)) ⌝ }
+{
+    *told = [
+        words[LINE],
+        words[CONFIGURATION],
+        words[OUTPUT],
+        words[PORT_KIND],
+        words[PIN_KIND],
+    ];
     let int = words_views::int(words);
     let low = words_views::low(words, PINS24);
     let high = words_views::high(words);
-    text_answers::put_line(out, at, answer, int, low, high)
+    text_answers::keep(kept, words[PART], int, low, high);
+}
+
+// The text of the columns, written anew if they changed.
+fn renew(words: &[u64; 28], told: &mut [u64; 5], kept: &mut [u8; 22])
+    requires { ⌜ Packed 0 (now words) × Beside (now words) (now told) (now kept) ⌝ }
+    ensures { λ r. ⌜ Beside (now (words .entry)) (now (told .exit)) (now (kept .exit)) × Told (now (words .entry)) (now (told .exit)) ⌝ }
+{
+    if is_told(words, &*told) {
+        return;
+    }
+    refresh(words, told, kept);
 }
 
 // A device anew.
-fn make(words: &mut [u64; 28], choice: u8, levels: u64, out: &mut [u8], at: usize) -> usize
+fn make(
+    words: &mut [u64; 28],
+    told: &mut [u64; 5],
+    kept: &mut [u8; 22],
+    choice: u8,
+    levels: u64,
+    out: &mut [u8],
+    at: usize,
+) -> usize
     requires { ⌜ (choice < 4) × (levels < 2 ^ 24) × (at + 26 ≤ length (now out)) ⌝ }
-    ensures { λ end. ⌜ Says (told (outcome Nothing (powerOn part24 choice levels))) (now (words .entry)) (now (out .entry)) at end (now (out .exit)) (now (words .exit)) ⌝ }
+    ensures { λ end. ⌜ Says (toldBy (outcome Nothing (powerOn part24 choice levels))) (now (words .entry)) (now (out .entry)) at end (now (out .exit)) (now (words .exit))
+        × Beside (now (words .exit)) (now (told .exit)) (now (kept .exit)) ⌝ }
 {
     words_device::power_on(words, choice, levels);
-    tell(&*words, Answer::Nothing, out, at)
+    refresh(&*words, told, kept);
+    text_answers::put_line(out, at, words[PART], Answer::Nothing, &*kept)
 }
 
 // An event, on the device if there is one.
@@ -53,17 +107,21 @@ fn event(
     words: &mut [u64; 28],
     rows: &[u32; 128],
     next: &[u8; 128],
+    told: &mut [u64; 5],
+    kept: &mut [u8; 22],
     kind: u32,
     arg: u64,
     out: &mut [u8],
     at: usize,
 ) -> usize
-    requires { ⌜ Kept (now words) × (at + 26 ≤ length (now out)) × Rowed part24 (now rows) × Stepping part24 (now next) ⌝ }
-    ensures { λ end. ⌜ Says (traced (sessionOf (now (words .entry))) (Line.Event kind arg)) (now (words .entry)) (now (out .entry)) at end (now (out .exit)) (now (words .exit)) ⌝ }
+    requires { ⌜ Kept (now words) × (at + 26 ≤ length (now out)) × Rowed part24 (now rows) × Stepping part24 (now next) × Beside (now words) (now told) (now kept) ⌝ }
+    ensures { λ end. ⌜ Says (traced (sessionOf (now (words .entry))) (Line.Event kind arg)) (now (words .entry)) (now (out .entry)) at end (now (out .exit)) (now (words .exit))
+        × Beside (now (words .exit)) (now (told .exit)) (now (kept .exit)) ⌝ }
 {
     if words[PART] == 0 {
         let answer = words_bus::answer(words_device::event_by(words, rows, next, kind, arg));
-        return tell(&*words, answer, out, at);
+        renew(&*words, told, kept);
+        return text_answers::put_line(out, at, words[PART], answer, &*kept);
     }
     refuse(out, at)
 }
@@ -73,17 +131,20 @@ pub fn answer_line(
     words: &mut [u64; 28],
     rows: &[u32; 128],
     next: &[u8; 128],
+    told: &mut [u64; 5],
+    kept: &mut [u8; 22],
     line: &[u8],
     out: &mut [u8],
     at: usize,
 ) -> usize
-    requires { ⌜ Kept (now words) × (at + 26 ≤ length (now out)) × Rowed part24 (now rows) × Stepping part24 (now next) ⌝ }
-    ensures { λ end. ⌜ Says (traced (sessionOf (now (words .entry))) (lineOf (now (line .entry)))) (now (words .entry)) (now (out .entry)) at end (now (out .exit)) (now (words .exit)) ⌝ }
+    requires { ⌜ Kept (now words) × (at + 26 ≤ length (now out)) × Rowed part24 (now rows) × Stepping part24 (now next) × Beside (now words) (now told) (now kept) ⌝ }
+    ensures { λ end. ⌜ Says (traced (sessionOf (now (words .entry))) (lineOf (now (line .entry)))) (now (words .entry)) (now (out .entry)) at end (now (out .exit)) (now (words .exit))
+        × Beside (now (words .exit)) (now (told .exit)) (now (kept .exit)) ⌝ }
 {
     let said = trace_lines::read(line);
     match said {
-        Line::Device { choice, levels } => make(words, choice, levels, out, at),
-        Line::Event { kind, arg } => event(words, rows, next, kind, arg, out, at),
+        Line::Device { choice, levels } => make(words, told, kept, choice, levels, out, at),
+        Line::Event { kind, arg } => event(words, rows, next, told, kept, kind, arg, out, at),
         Line::Unreadable => refuse(out, at),
     }
 }

@@ -4,7 +4,7 @@ use borrow.Author.Needs.{needs}
 use borrow.Author.Tests.{not-true, not-false}
 use mathlib.Core.Path.{sym, _∙_}
 use Rattle.text.proofs.Laws.{wrote-as}
-use Rattle.text_answers.proofs.Laws.{refused-line, refused-short}
+use Rattle.text_answers.proofs.Laws.{refused-short}
 use Rattle.probe_fields.proofs.Reading.{readable-long}
 use Rattle.probe_images.proofs.Spoken.{unreadable-text, probed-text}
 use Rattle.probe_images.proofs.Answered.{step-fits}
@@ -15,7 +15,7 @@ returns : tie.Need-returns
 returns c =
     let p = c .before .before in
     let t = p .before .before in
-    let w = wrote-as (refused-line 7 _ _ _) (p .put-line .ensures) in
+    let w = p .put-refused .ensures in
     (wrote-as (unreadable-text _ (t .before .is-readable .ensures) (not-true _ (t .if1 .taken))) w, omega (arith, w .ends, refused-short 7))
 
 step-in-requires : tie.Need-step-in-requires

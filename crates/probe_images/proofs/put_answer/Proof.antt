@@ -1,4 +1,5 @@
 -- `probe_images::put_answer`: the words that the image is packed into show what the image does (`words-text`), and a refusal shows nothing. Assumes nothing.
+use native.Mathlib.Omega.{arith}
 use borrow.Author.Needs.{needs}
 use mathlib.Core.Path.{refl}
 use Rattle.text.proofs.Laws.{wrote-as}
@@ -17,7 +18,7 @@ returns c =
     let choice = words .before .before .before in
     let x = choice .before .before .before .before .before .before in
     let e = words-text (words .pack .ensures) _ _ _ (int .int .ensures 0) (low .low .ensures 0 refl) (high .high .ensures 0) (x .args .answer) (x .pre .0) in
-    (wrote-as e (p .put-answer .ensures), text-ends _ _ _ _ (p .put-answer .ensures))
+    (wrote-as e (p .put-answer .ensures), omega (arith, text-ends 0 _ _ _ _ (p .put-answer .ensures)))
 
 pub put-answer-spec : {M : Type 1} → statement M
 put-answer-spec =

@@ -3,11 +3,12 @@ use borrow.Author.Needs.{needs}
 use mathlib.Core.Path.{refl}
 use mathlib.Core.Bool.{false}
 use Rattle.bits.proofs.Decide.{clash}
+use Rattle.trace_session.proofs.Laws.{beside-start}
 use Rattle.trace_logs.proofs.start.Statement.{statement}
 use Rattle.trace_logs.proofs.start.Tie as tie
 
 returns : tie.Need-returns
-returns c = (λ held. refl, λ h. clash false h refl)
+returns c = (λ held. refl, λ h. clash false h refl, λ told kept. beside-start _ told kept refl)
 
 pub start-spec : {M : Type 1} → statement M
 start-spec = tie.close (tie.spec (λ c. search needs) returns)

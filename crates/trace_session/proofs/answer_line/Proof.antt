@@ -9,7 +9,7 @@ use Rattle.trace_session.proofs.answer_line.Tie as tie
 
 make-requires : tie.Need-make-requires
 make-requires c κs =
-    let s = c .before .before .before in
+    let s = c .before .before .before .before .before in
     let r = s .before .before in
     let m = line-means _ .makes _ _ (sym (r .read .ensures) ∙ s .said .given .1) in
     (omega (arith, m), omega (arith, m), search needs)
@@ -17,14 +17,14 @@ make-requires c κs =
 returns : tie.Need-returns
 returns c =
     let p = c .before .before in
-    let s = p .before .before .before .before in
-    says-as (device-told _ _ _ (s .before .before .read .ensures) (s .said .given .1)) (p .make .ensures)
+    let s = p .before .before .before .before .before .before in
+    (says-as (device-told _ _ _ (s .before .before .read .ensures) (s .said .given .1)) (p .make .ensures .0), p .make .ensures .1)
 
 returns-2 : tie.Need-returns-2
 returns-2 c =
     let p = c .before .before in
-    let s = p .before .before .before .before in
-    says-as (event-said _ _ _ (s .before .before .read .ensures) (s .said2 .given .1)) (p .event .ensures)
+    let s = p .before .before .before .before .before .before in
+    (says-as (event-said _ _ _ (s .before .before .read .ensures) (s .said2 .given .1)) (p .event .ensures .0), p .event .ensures .1)
 
 returns-3 : tie.Need-returns-3
 returns-3 c =
@@ -32,7 +32,7 @@ returns-3 c =
     let s = p .before .before in
     let r = s .before .before in
     let x = r .before .before .before in
-    says-as (unreadable-said _ _ _ (r .read .ensures) (s .enum-told .given .1)) (refused-said _ (x .pre .0) (p .refuse .ensures))
+    (says-as (unreadable-said _ _ _ (r .read .ensures) (s .enum-told .given .1)) (refused-said _ (x .pre .0) (p .refuse .ensures)), x .pre .4)
 
 pub answer-line-spec : {M : Type 1} → statement M
 answer-line-spec = tie.close (tie.spec (λ c κs. search needs) (λ c. search needs) make-requires (λ c. search needs) (λ c κs. search needs) (λ c. search needs) (λ c κs. search needs) (λ c. search needs) returns (λ c. search needs) returns-2 (λ c. search needs) returns-3)
