@@ -44,7 +44,7 @@ fn make(words: &mut [u64; 28], choice: u8, levels: u64, out: &mut [u8], at: usiz
     requires { ⌜ (choice < 4) × (levels < 2 ^ 24) × (at + 26 ≤ length (now out)) ⌝ }
     ensures { λ end. ⌜ Says (told (outcome Nothing (powerOn part24 choice levels))) (now (words .entry)) (now (out .entry)) at end (now (out .exit)) (now (words .exit)) ⌝ }
 {
-    words_device::power_on(words, choice, levels);
+    words_device::power_on(words, 0, choice, levels);
     tell(&*words, Answer::Nothing, out, at)
 }
 
@@ -62,7 +62,14 @@ fn event(
     ensures { λ end. ⌜ Says (traced (sessionOf (now (words .entry))) (Line.Event kind arg)) (now (words .entry)) (now (out .entry)) at end (now (out .exit)) (now (words .exit)) ⌝ }
 {
     if words[PART] == 0 {
-        let answer = words_bus::answer(words_device::event_by(words, rows, next, kind, arg));
+        let answer = words_bus::answer(words_device::event_by(
+            words,
+            rows,
+            next,
+            PINS24,
+            kind,
+            arg,
+        ));
         return tell(&*words, answer, out, at);
     }
     refuse(out, at)
