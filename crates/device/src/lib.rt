@@ -87,7 +87,7 @@ impl Device {
         ensures { λ r. ⌜ r ≡ defaults part24 ⌝ }
     {
         let mut words = [0u64; 28];
-        words_device::power_on(&mut words, 0, 0);
+        words_device::power_on(&mut words, 0, 0, 0);
         let mut file = [0u8; 128];
         words_images::to_file(&words, 0, &mut file);
         file

@@ -40,7 +40,7 @@ pub extern "C" fn ghixramel_power_on(words: &mut [u64; 28], choice: u32, levels:
     if PINS24 < levels {
         return BAD_ARGUMENT;
     }
-    words_device::power_on(words, (choice % 4) as u8, levels);
+    words_device::power_on(words, 0, (choice % 4) as u8, levels);
     DONE
 }
 
@@ -54,7 +54,7 @@ pub extern "C" fn ghixramel_step(
 ) -> u32
     ensures { λ r. ⌜ Told (now (words .entry)) kind argument r (now (words .exit)) (now (answer .entry)) (now (answer .exit)) ⌝ }
 {
-    let number = words_device::step24(words, kind, argument);
+    let number = words_device::step(words, 0, kind, argument);
     host_words::tell(number, answer)
 }
 

@@ -1,5 +1,7 @@
 // The register map, part by part: see specs/Map.antt for the groups and proofs/ for what is worked out of them.
-ghost use Rattle.map.specs.Map.{part24, Stepping};
+ghost use mathlib.Core.Path.{_≡_};
+ghost use Prim.Native.Nat.{_-_, _^_};
+ghost use Rattle.map.specs.Map.{part24, part34, partOf, Stepping};
 
 // The 24-pin part: every pin, the bits that exist in the output port kind, in debounce enable and in debounce count.
 pub const PINS24: u64 = 0xff_ffff;
@@ -182,5 +184,163 @@ pub const DEBOUNCED34: u64 = 0xff_ffff;
 
 pub const DEBOUNCE_COUNT34: u64 = 0;
 
+// Its group step.
+pub const NEXT34: [u8; 128] = [
+    0x01,
+    0x02,
+    0x03,
+    0x04,
+    0x00,
+    0x06,
+    0x07,
+    0x08,
+    0x09,
+    0x05,
+    0x0b,
+    0x0c,
+    0x0d,
+    0x0e,
+    0x0a,
+    0x10,
+    0x11,
+    0x12,
+    0x13,
+    0x0f,
+    RESERVED,
+    RESERVED,
+    RESERVED,
+    RESERVED,
+    RESERVED,
+    RESERVED,
+    RESERVED,
+    RESERVED,
+    RESERVED,
+    RESERVED,
+    RESERVED,
+    RESERVED,
+    RESERVED,
+    RESERVED,
+    RESERVED,
+    RESERVED,
+    RESERVED,
+    RESERVED,
+    RESERVED,
+    RESERVED,
+    RESERVED,
+    RESERVED,
+    RESERVED,
+    RESERVED,
+    RESERVED,
+    RESERVED,
+    RESERVED,
+    RESERVED,
+    0x31,
+    0x32,
+    0x33,
+    0x34,
+    0x35,
+    0x36,
+    0x37,
+    0x38,
+    0x30,
+    RESERVED,
+    0x3b,
+    0x3c,
+    0x3d,
+    0x3e,
+    0x3a,
+    0x40,
+    0x41,
+    0x42,
+    0x43,
+    0x3f,
+    0x45,
+    0x46,
+    0x47,
+    0x48,
+    0x44,
+    0x4a,
+    0x4b,
+    0x4c,
+    0x4d,
+    0x49,
+    0x4f,
+    0x50,
+    0x51,
+    0x52,
+    0x4e,
+    0x53,
+    0x55,
+    0x56,
+    0x57,
+    0x58,
+    0x59,
+    0x5a,
+    0x5b,
+    0x5c,
+    0x54,
+    RESERVED,
+    0x5f,
+    0x60,
+    0x61,
+    0x62,
+    0x5e,
+    0x64,
+    0x65,
+    0x66,
+    0x67,
+    0x63,
+    0x69,
+    0x6a,
+    0x6b,
+    0x6c,
+    0x68,
+    0x6e,
+    0x6f,
+    0x6d,
+    RESERVED,
+    RESERVED,
+    RESERVED,
+    RESERVED,
+    RESERVED,
+    RESERVED,
+    RESERVED,
+    RESERVED,
+    RESERVED,
+    RESERVED,
+    RESERVED,
+    RESERVED,
+    RESERVED,
+    RESERVED,
+    RESERVED,
+    RESERVED,
+];
+
+pub fn next34() -> [u8; 128]
+    ensures { λ r. ⌜ Stepping part34 r ⌝ }
+{
+    NEXT34
+}
+
 // Of both: the last register number.
 pub const LAST_NUMBER: u8 = 0x7f;
+
+// Every pin of the part of that number.
+pub fn pins_of(part: u64) -> u64
+    ensures { λ r. ⌜ r ≡ 2 ^ partOf part .width - 1 ⌝ }
+{
+    if part == 0 {
+        return PINS24;
+    }
+    PINS34
+}
+
+// And its group step.
+pub fn next_of(part: u64) -> [u8; 128]
+    ensures { λ r. ⌜ Stepping (partOf part) r ⌝ }
+{
+    if part == 0 {
+        return next24();
+    }
+    next34()
+}

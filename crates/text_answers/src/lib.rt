@@ -49,7 +49,7 @@ fn int_level(int: bool) -> u8
     b'1'
 }
 
-fn digits_of(part: u64) -> usize
+pub fn digits_of(part: u64) -> usize
     ensures { λ r. ⌜ (r ≡ digitsOf (partOf part)) × (r ≤ 9) ⌝ }
 {
     if part == 0 {

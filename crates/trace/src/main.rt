@@ -11,8 +11,8 @@ fn write_header() {
 fn main() {
     let mut piece = [0u8; 16384];
     let mut out = [0u8; 425_984];
-    let rows = words_rows::rows24();
-    let next = map::next24();
+    let mut rows = [0u32; 128];
+    let mut next = [0u8; 128];
     let mut words = trace_logs::start();
     let mut told = [0u64; 5];
     let mut kept = [0u8; 22];
@@ -27,8 +27,8 @@ fn main() {
         if n == 0 {
             let end = trace_logs::finish(
                 &mut words,
-                &rows,
-                &next,
+                &mut rows,
+                &mut next,
                 &mut told,
                 &mut kept,
                 &held,
@@ -41,8 +41,8 @@ fn main() {
         }
         let fed = trace_logs::feed(
             &mut words,
-            &rows,
-            &next,
+            &mut rows,
+            &mut next,
             &mut told,
             &mut kept,
             &mut held,

@@ -5,15 +5,16 @@ use mathlib.Core.List.{List, [], _∷_, _++_}
 use Prim.Native.Nat.{ℕ, _+_, _-_, _*_, _<_, _≤_}
 use native.Mathlib.Omega.{arith}
 use borrow.Author.Tests.{lt-ltb, le-ltb, ltb-true}
-use lib.Dec.{eqb, ltb}
+use lib.Dec.{ltb}
 use lib.ListN.{length, getD, take, drop, length-take, length-drop}
+use Rattle.map.specs.Map.{Part}
 use Rattle.text.specs.Text.{Wrote}
 use Rattle.text.proofs.Laws.{wrote-as, wrote-both, wrote-nothing, wrote-length}
 use Rattle.text_pieces.specs.Pieces.{newlineAt, takenOf}
 use Rattle.trace_lines.specs.Lines.{lineOf}
 use Rattle.trace_lines.proofs.Laws.{rest as tail}
 use Rattle.words_bus.specs.Packed.{partWord}
-use Rattle.trace_session.specs.Tracing.{Session, traced, sessionOf, Kept, Says}
+use Rattle.trace_session.specs.Tracing.{Session, partIn, traced, answerTo, sessionOf, Kept, Says}
 use Rattle.trace_session.proofs.Laws.{says-as, traced-short}
 use Rattle.trace_logs.specs.Pieces.{Reading, Given, readingOf, grown, answerOf, ended, andThen, given, firstGiven, heldAfter, Gives, Ends}
 use Rattle.trace_logs.proofs.Laws.{given-first, overlaid-nothing, line-take, end-none, end-line}
@@ -50,14 +51,15 @@ module _ (r : Reading) (piece : List ℕ) (n : ℕ) (found : n ≡ newlineAt pie
 -- a line that began in an earlier piece is read out of the held bytes, and one that did not where it lies
 module _ (words held : List ℕ) (len : ℕ) where
   pub line-joined : (all : ℕ) (after part : List ℕ) → readingOf words after all ≡ grown (readingOf words held len) part
-      → traced (sessionOf words) (lineOf (take (all - 0) after)) ≡ answerOf (grown (readingOf words held len) part)
+      → answerTo (sessionOf words) (take (all - 0) after) ≡ answerOf (grown (readingOf words held len) part)
   line-joined all after part e =
       let k : all - 0 ≡ all = omega arith in
-      ap (λ (x : ℕ). traced (sessionOf words) (lineOf (take x after))) k ∙ ap answerOf e
+      ap (λ (x : ℕ). answerTo (sessionOf words) (take x after)) k ∙ ap answerOf e
 
-  pub line-whole : len ≡ 0 → (part : List ℕ) → traced (sessionOf words) (lineOf part) ≡ answerOf (grown (readingOf words held len) part)
+  pub line-whole : len ≡ 0 → (part : List ℕ) → answerTo (sessionOf words) part ≡ answerOf (grown (readingOf words held len) part)
   line-whole z part =
-      ap (traced (sessionOf words)) (sym (line-take part) ∙ ap (λ (k : ℕ). lineOf (take 33 (take k held ++ part))) (sym z))
+      let p : Part = partIn (sessionOf words) in
+      ap (traced (sessionOf words)) (sym (line-take p part) ∙ ap (λ (k : ℕ). lineOf p (take 33 (take k held ++ part))) (sym z))
 
 -- the end of the log
 module _ (words held : List ℕ) (len : ℕ) where
@@ -76,14 +78,14 @@ module _ (words held : List ℕ) (len : ℕ) where
       }
 
   pub last-line : (length (take (len - 0) held) ≡ 0 → ⊥) → {out left after : List ℕ} {at end : ℕ} → at + 26 ≤ length out
-      → Says (traced (sessionOf words) (lineOf (take (len - 0) held))) words out at end left after → Ends (readingOf words held len) words out at end left after
+      → Says (answerTo (sessionOf words) (take (len - 0) held)) words out at end left after → Ends (readingOf words held len) words out at end left after
   last-line some {out} {left} {after} {at} {end} room s =
       let e = end-line (readingOf words held len) (rw part-is at some) in
-      let t : Says (answerOf (readingOf words held len)) words out at end left after = says-as (ap (λ (x : List ℕ). traced (sessionOf words) (lineOf x)) part-is) s in
+      let t : Says (answerOf (readingOf words held len)) words out at end left after = says-as (ap (answerTo (sessionOf words)) part-is) s in
       record {
         wrote = wrote-as (sym (ap (λ (g : Given). g .text) e)) (t .says);
         goes-on = t .goes-on ∙ sym (ap (λ (g : Given). g .after .session) e);
-        within = omega (arith, t .says .ends, wrote-length (t .says), traced-short (sessionOf words) (lineOf (take len held)));
+        within = omega (arith, t .says .ends, wrote-length (t .says), traced-short (sessionOf words) (lineOf (partIn (sessionOf words)) (take len held)));
         kept = t .kept;
         untouched = t .untouched;
       }
@@ -97,7 +99,7 @@ first-short r piece = go (ltb (newlineAt piece) (length piece))
     line = grown r (take (newlineAt piece) piece)
 
     go : (t : Bool) → length (cond t (ended line) (record { text = []; after = grown r piece }) .text) ≤ 26
-    go true = traced-short (line .session) (lineOf (line .begun))
+    go true = traced-short (line .session) (lineOf (partIn (line .session)) (line .begun))
     go false = omega arith
 
 pub taken-some : (piece : List ℕ) → 0 < length piece → (0 < takenOf piece) × (takenOf piece ≤ length piece)
@@ -121,7 +123,7 @@ pub record Onward (words₀ held₀ : List ℕ) (len₀ : ℕ) (piece out₀ : L
   pub small : len ≤ 33
   pub whole : length held ≡ 33
   pub kept : Kept words
-  pub untouched : eqb (getD words partWord 0) 0 ≡ false → words ≡ words₀
+  pub untouched : ltb (getD words partWord 0) 2 ≡ false → words ≡ words₀
   pub long : length out ≡ length out₀
   pub room : end + 26 * length rest ≤ length out
   pub writes : {last : ℕ} {left : List ℕ} → Wrote out end (given (readingOf words held len) rest .text) last left → Wrote out₀ at (given (readingOf words₀ held₀ len₀) piece .text) last left
@@ -152,7 +154,7 @@ module _ {piece out₀ : List ℕ} {at : ℕ} where
           small = g .small;
           whole = g .whole;
           kept = g .kept;
-          untouched = λ none. (g .untouched none ∙ here .untouched (ap (λ (w : List ℕ). eqb (getD w partWord 0) 0) (sym (g .untouched none)) ∙ none));
+          untouched = λ none. (g .untouched none ∙ here .untouched (ap (λ (w : List ℕ). ltb (getD w partWord 0) 2) (sym (g .untouched none)) ∙ none));
           long = wrote-length (g .wrote) ∙ here .long;
           room = omega (arith, ap length e, length-drop (takenOf rest) rest, taken-some rest some, first-short x rest, g .wrote .ends, wrote-length (g .wrote), here .room);
           writes = λ w. here .writes (wrote-as (sym (ap (λ (y : Given). y .text) all)) (wrote-both (g .wrote) w));

@@ -9,6 +9,7 @@ use borrow.Author.Tests.{eq-eqb, ne-eqb, lt-ltb, le-ltb, ltb-true, ltb-false}
 use lib.Dec.{eqb, ltb, leb·suc-suc}
 use lib.ListN.{length, take, drop, length-take, take-append-drop, drop-of-length-le}
 use lib.Seq.{drop-length, take-all, length-take-le}
+use Rattle.map.specs.Map.{Part}
 use Rattle.text_pieces.specs.Pieces.{newlineAt, takenOf}
 use Rattle.text_pieces.proofs.Laws.{take-again}
 use Rattle.trace_lines.specs.Lines.{lineOf}
@@ -115,15 +116,15 @@ module _ (held : List ℕ) (len : ℕ) where
         ∙ sym (held-first [] piece ∙ rw (sym found, lt-ltb n (length piece) inside, add-one n) refl)
 
 -- of a line over 32 bytes the first 33 say as much as all of it
-pub line-take : (s : List ℕ) → lineOf (take 33 s) ≡ lineOf s
+pub line-take : (p : Part) (s : List ℕ) → lineOf p (take 33 s) ≡ lineOf p s
 unfolding lineOf
-line-take s = go (ltb 32 (length s)) refl
+line-take p s = go (ltb 32 (length s)) refl
   where
-    go : (t : Bool) → ltb 32 (length s) ≡ t → lineOf (take 33 s) ≡ lineOf s
+    go : (t : Bool) → ltb 32 (length s) ≡ t → lineOf p (take 33 s) ≡ lineOf p s
     go true e =
         let l : 32 < length s = ltb-true 32 (length s) e in
         rw (lt-ltb 32 (length s) l, length-take-le 33 s (omega arith))
-    go false e = let l : length s ≤ 32 = ltb-false 32 (length s) e in ap lineOf (take-all 33 s (omega arith))
+    go false e = let l : length s ≤ 32 = ltb-false 32 (length s) e in ap (lineOf p) (take-all 33 s (omega arith))
 
 -- the end of the log: nothing where no line has begun, else its answer
 pub end-none : (r : Reading) → length (r .begun) ≡ 0 → atEnd r ≡ record { text = []; after = r }

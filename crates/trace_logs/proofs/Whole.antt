@@ -7,8 +7,7 @@ use native.Mathlib.Omega.{arith}
 use lib.Dec.{eqb}
 use lib.ListN.{take, length-take}
 use Rattle.trace_lines.specs.declared.Line.{Line}
-use Rattle.trace_lines.specs.Lines.{lineOf}
-use Rattle.trace_session.specs.Tracing.{Session, Traced, traced}
+use Rattle.trace_session.specs.Tracing.{Session, Traced, partIn, traced, answerTo}
 use Rattle.trace_session.specs.Tracing.Session.{NoDevice}
 use Rattle.trace_logs.specs.Logs.{header, linesOf, lastLine, answersFrom, answersOf}
 use Rattle.trace_logs.specs.Pieces.{Reading, Given, opened, grown, ended, andThen, given, lastText, joined, givenAll, written}
@@ -51,7 +50,7 @@ unfolding answersFrom
 last-answers x [] = ap (λ (g : Given). g .text) (end-none (kept x []) refl)
 last-answers x (b ∷ begun) =
     ap (λ (g : Given). g .text) (end-line (kept x (b ∷ begun)) (λ z. omega (arith, length-take 33 (b ∷ begun), z)))
-    ∙ ap (λ (l : Line). traced x l .line) (line-take (b ∷ begun)) ∙ sym (append-nil (traced x (lineOf (b ∷ begun)) .line))
+    ∙ ap (λ (l : Line). traced x l .line) (line-take (partIn x) (b ∷ begun)) ∙ sym (append-nil (answerTo x (b ∷ begun) .line))
 
 all-answers : (log : List ℕ) (x : Session) (begun : List ℕ) → toEnd (given (kept x begun) log) ≡ answersFrom x (linesOf begun log)
 unfolding given linesOf answersFrom
@@ -63,8 +62,8 @@ all-answers (b ∷ log) x begun = go (eqb b 0x0a) (λ y. all-answers log y []) (
         → toEnd (cond c (andThen (ended (kept x begun) .text) (given (ended (kept x begun) .after) log)) (given (grown (kept x begun) (b ∷ [])) log))
         ≡ answersFrom x (cond c (begun ∷ linesOf [] log) (linesOf (begun ++ (b ∷ [])) log))
     go true line more =
-        let t : Traced = traced x (lineOf begun) in
-        ap (λ (l : Line). toEnd (andThen (traced x l .line) (given (kept (traced x l .after) []) log))) (line-take begun)
+        let t : Traced = answerTo x begun in
+        ap (λ (l : Line). toEnd (andThen (traced x l .line) (given (kept (traced x l .after) []) log))) (line-take (partIn x) begun)
         ∙ append-assoc (t .line) (given (kept (t .after) []) log .text) (lastText (given (kept (t .after) []) log .after))
         ∙ ap (λ (s : List ℕ). t .line ++ s) (line (t .after))
     go false line more =

@@ -3,8 +3,7 @@ use mathlib.Core.Bool.{cond}
 use mathlib.Core.List.{List, [], _∷_, _++_}
 use Prim.Native.Nat.{ℕ}
 use lib.Dec.{eqb}
-use Rattle.trace_lines.specs.Lines.{lineOf}
-use Rattle.trace_session.specs.Tracing.{Session, traced}
+use Rattle.trace_session.specs.Tracing.{Session, answerTo}
 use Rattle.trace_session.specs.Tracing.Session.{NoDevice}
 
 -- `answer`, `int`, `low` and `high`, tabs between them, and a newline
@@ -26,7 +25,7 @@ linesOf begun (b ∷ text) = cond (eqb b 0x0a) (begun ∷ linesOf [] text) (line
 -- a line for each line
 unfoldable pub answersFrom : Session → List (List ℕ) → List ℕ
 answersFrom x [] = []
-answersFrom x (l ∷ lines) = traced x (lineOf l) .line ++ answersFrom (traced x (lineOf l) .after) lines
+answersFrom x (l ∷ lines) = answerTo x l .line ++ answersFrom (answerTo x l .after) lines
 
 unfoldable pub answersOf : (log : List ℕ) → List ℕ
 answersOf log = header ++ answersFrom NoDevice (linesOf [] log)

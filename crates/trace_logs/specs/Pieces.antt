@@ -7,9 +7,8 @@ use lib.Dec.{eqb, ltb}
 use lib.ListN.{length, getD, take, drop}
 use Rattle.text.specs.Text.{Wrote}
 use Rattle.text_pieces.specs.Pieces.{newlineAt}
-use Rattle.trace_lines.specs.Lines.{lineOf}
 use Rattle.words_bus.specs.Packed.{partWord}
-use Rattle.trace_session.specs.Tracing.{Session, Traced, traced, sessionOf, Kept}
+use Rattle.trace_session.specs.Tracing.{Session, Traced, answerTo, sessionOf, Kept}
 use Rattle.trace_session.specs.Tracing.Session.{NoDevice}
 use Rattle.trace_logs.specs.Logs.{header}
 
@@ -35,7 +34,7 @@ pub record Given : Type 0 where
 
 -- the answer of the line that has begun
 abbrev pub answerOf : Reading → Traced
-answerOf r = traced (r .session) (lineOf (r .begun))
+answerOf r = answerTo (r .session) (r .begun)
 
 -- it is answered, and the next begins
 abbrev pub ended : Reading → Given
@@ -75,7 +74,7 @@ pub record Gives (g : Given) (words₀ : List ℕ) (out : List ℕ) (at end : �
   pub small : len ≤ 33
   pub whole : length held ≡ 33
   pub kept : Kept words
-  pub untouched : eqb (getD words partWord 0) 0 ≡ false → words ≡ words₀
+  pub untouched : ltb (getD words partWord 0) 2 ≡ false → words ≡ words₀
 
 -- at the end of the log: a line that has begun counts
 unfoldable pub atEnd : Reading → Given
@@ -90,7 +89,7 @@ pub record Ends (r : Reading) (words₀ : List ℕ) (out : List ℕ) (at end : �
   pub goes-on : sessionOf words ≡ atEnd r .after .session
   pub within : end ≤ length left
   pub kept : Kept words
-  pub untouched : eqb (getD words partWord 0) 0 ≡ false → words ≡ words₀
+  pub untouched : ltb (getD words partWord 0) 2 ≡ false → words ≡ words₀
 
 -- ---- a log that arrives in any pieces
 unfoldable pub joined : (pieces : List (List ℕ)) → List ℕ

@@ -3,8 +3,6 @@ ghost use mathlib.Core.Path.{_≡_};
 ghost use mathlib.Core.List.{List, []};
 ghost use Prim.Native.Nat.{ℕ, _+_, _*_, _≤_};
 ghost use lib.ListN.{length, drop};
-ghost use Rattle.map.specs.Map.{part24, Stepping};
-ghost use Rattle.words_rows.specs.Rows.{Rowed};
 ghost use Rattle.text.specs.Text.{Wrote};
 ghost use Rattle.trace_session.specs.Tracing.{Kept, Says, Beside};
 ghost use Rattle.trace_logs.specs.Logs.{header};
@@ -29,8 +27,8 @@ fn grow(held: &mut [u8; 33], len: usize, part: &[u8]) -> usize
 // The line that has begun ends with this part: its answer is written from at on.
 fn joined_line(
     words: &mut [u64; 28],
-    rows: &[u32; 128],
-    next: &[u8; 128],
+    rows: &mut [u32; 128],
+    next: &mut [u8; 128],
     told: &mut [u64; 5],
     kept: &mut [u8; 22],
     held: &mut [u8; 33],
@@ -39,11 +37,11 @@ fn joined_line(
     out: &mut [u8],
     at: usize,
 ) -> usize
-    requires { ⌜ Kept (now words) × (len ≤ 33) × (length (now held) ≡ 33) × (at + 26 ≤ length (now out)) × Rowed part24 (now rows) × Stepping part24 (now next)
-        × Beside (now words) (now told) (now kept) ⌝ }
+    requires { ⌜ Kept (now words) × (len ≤ 33) × (length (now held) ≡ 33) × (at + 26 ≤ length (now out))
+        × Beside (now words) (now rows) (now next) (now told) (now kept) ⌝ }
     ensures { λ end. ⌜ Says (answerOf (grown (readingOf (now (words .entry)) (now (held .entry)) len) (now (part .entry)))) (now (words .entry)) (now (out .entry)) at end (now (out .exit)) (now (words .exit))
         × (length (now (held .exit)) ≡ 33) × (now (held .exit) ≡ overlaid (now (held .entry)) len (now (part .entry)))
-        × Beside (now (words .exit)) (now (told .exit)) (now (kept .exit)) ⌝ }
+        × Beside (now (words .exit)) (now (rows .exit)) (now (next .exit)) (now (told .exit)) (now (kept .exit)) ⌝ }
 {
     let all = grow(held, len, part);
     let bytes = *held;
@@ -53,8 +51,8 @@ fn joined_line(
 // The same; a line that lies whole in the piece is read where it lies.
 fn end_line(
     words: &mut [u64; 28],
-    rows: &[u32; 128],
-    next: &[u8; 128],
+    rows: &mut [u32; 128],
+    next: &mut [u8; 128],
     told: &mut [u64; 5],
     kept: &mut [u8; 22],
     held: &mut [u8; 33],
@@ -63,11 +61,11 @@ fn end_line(
     out: &mut [u8],
     at: usize,
 ) -> usize
-    requires { ⌜ Kept (now words) × (len ≤ 33) × (length (now held) ≡ 33) × (at + 26 ≤ length (now out)) × Rowed part24 (now rows) × Stepping part24 (now next)
-        × Beside (now words) (now told) (now kept) ⌝ }
+    requires { ⌜ Kept (now words) × (len ≤ 33) × (length (now held) ≡ 33) × (at + 26 ≤ length (now out))
+        × Beside (now words) (now rows) (now next) (now told) (now kept) ⌝ }
     ensures { λ end. ⌜ Says (answerOf (grown (readingOf (now (words .entry)) (now (held .entry)) len) (now (part .entry)))) (now (words .entry)) (now (out .entry)) at end (now (out .exit)) (now (words .exit))
         × (length (now (held .exit)) ≡ 33) × (now (held .exit) ≡ heldAtEnd (now (held .entry)) len (now (part .entry)))
-        × Beside (now (words .exit)) (now (told .exit)) (now (kept .exit)) ⌝ }
+        × Beside (now (words .exit)) (now (rows .exit)) (now (next .exit)) (now (told .exit)) (now (kept .exit)) ⌝ }
 {
     if len == 0 {
         return trace_session::answer_line(words, rows, next, told, kept, part, out, at);
@@ -85,8 +83,8 @@ struct Took {
 // The first line of a piece: its answer is written from at on. A piece with no newline is all carried on.
 fn first_line(
     words: &mut [u64; 28],
-    rows: &[u32; 128],
-    next: &[u8; 128],
+    rows: &mut [u32; 128],
+    next: &mut [u8; 128],
     told: &mut [u64; 5],
     kept: &mut [u8; 22],
     held: &mut [u8; 33],
@@ -95,12 +93,12 @@ fn first_line(
     out: &mut [u8],
     at: usize,
 ) -> Took
-    requires { ⌜ Kept (now words) × (len ≤ 33) × (length (now held) ≡ 33) × (at + 26 ≤ length (now out)) × Rowed part24 (now rows) × Stepping part24 (now next)
-        × Beside (now words) (now told) (now kept) ⌝ }
+    requires { ⌜ Kept (now words) × (len ≤ 33) × (length (now held) ≡ 33) × (at + 26 ≤ length (now out))
+        × Beside (now words) (now rows) (now next) (now told) (now kept) ⌝ }
     ensures { λ t. ⌜ Gives (firstGiven (readingOf (now (words .entry)) (now (held .entry)) len) (now (piece .entry))) (now (words .entry)) (now (out .entry)) at (t .end) (now (out .exit)) (now (words .exit)) (now (held .exit)) (t .len)
         × (t .taken ≡ takenOf (now (piece .entry)))
         × (heldAfter (now (held .exit)) (t .len) [] (drop (t .taken) (now (piece .entry))) ≡ heldAfter (now (held .entry)) len [] (now (piece .entry)))
-        × Beside (now (words .exit)) (now (told .exit)) (now (kept .exit)) ⌝ }
+        × Beside (now (words .exit)) (now (rows .exit)) (now (next .exit)) (now (told .exit)) (now (kept .exit)) ⌝ }
 {
     let line = text_pieces::first_line(piece);
     let part = line.len;
@@ -131,8 +129,8 @@ fn first_line(
 // Every complete line of a piece is answered, each line's reader handing the rest onward; the answers are written from at on.
 pub fn feed(
     words: &mut [u64; 28],
-    rows: &[u32; 128],
-    next: &[u8; 128],
+    rows: &mut [u32; 128],
+    next: &mut [u8; 128],
     told: &mut [u64; 5],
     kept: &mut [u8; 22],
     held: &mut [u8; 33],
@@ -141,11 +139,11 @@ pub fn feed(
     out: &mut [u8],
     at: usize,
 ) -> Fed
-    requires { ⌜ Kept (now words) × (len ≤ 33) × (length (now held) ≡ 33) × (at + 26 * length (now piece) ≤ length (now out)) × Rowed part24 (now rows) × Stepping part24 (now next)
-        × Beside (now words) (now told) (now kept) ⌝ }
+    requires { ⌜ Kept (now words) × (len ≤ 33) × (length (now held) ≡ 33) × (at + 26 * length (now piece) ≤ length (now out))
+        × Beside (now words) (now rows) (now next) (now told) (now kept) ⌝ }
     ensures { λ f. ⌜ Gives (given (readingOf (now (words .entry)) (now (held .entry)) len) (now (piece .entry))) (now (words .entry)) (now (out .entry)) at (f .end) (now (out .exit)) (now (words .exit)) (now (held .exit)) (f .len)
         × (f .end ≤ length (now (out .exit))) × (now (held .exit) ≡ heldAfter (now (held .entry)) len [] (now (piece .entry)))
-        × Beside (now (words .exit)) (now (told .exit)) (now (kept .exit)) ⌝ }
+        × Beside (now (words .exit)) (now (rows .exit)) (now (next .exit)) (now (told .exit)) (now (kept .exit)) ⌝ }
 {
     let mut rest = piece;
     let mut count = len;
@@ -162,7 +160,7 @@ pub fn feed(
 
 // Words before a log: no device yet.
 pub fn start() -> [u64; 28]
-    ensures { λ w. ⌜ ((held : List ℕ) → readingOf w held 0 ≡ opened) × Kept w × ((told kept : List ℕ) → length kept ≡ 22 → Beside w told kept) ⌝ }
+    ensures { λ w. ⌜ ((held : List ℕ) → readingOf w held 0 ≡ opened) × Kept w × ((rows next told kept : List ℕ) → length kept ≡ 22 → Beside w rows next told kept) ⌝ }
 {
     let mut words = [0u64; 28];
     words[words::PART] = trace_session::NO_PART;
@@ -180,8 +178,8 @@ pub fn put_header(out: &mut [u8], at: usize) -> usize
 // The end of the log: a last line without newline is answered if it holds a byte. Says where the answer ends.
 pub fn finish(
     words: &mut [u64; 28],
-    rows: &[u32; 128],
-    next: &[u8; 128],
+    rows: &mut [u32; 128],
+    next: &mut [u8; 128],
     told: &mut [u64; 5],
     kept: &mut [u8; 22],
     held: &[u8],
@@ -189,10 +187,10 @@ pub fn finish(
     out: &mut [u8],
     at: usize,
 ) -> usize
-    requires { ⌜ Kept (now words) × (len ≤ length (now held)) × (at + 26 ≤ length (now out)) × Rowed part24 (now rows) × Stepping part24 (now next)
-        × Beside (now words) (now told) (now kept) ⌝ }
+    requires { ⌜ Kept (now words) × (len ≤ length (now held)) × (at + 26 ≤ length (now out))
+        × Beside (now words) (now rows) (now next) (now told) (now kept) ⌝ }
     ensures { λ end. ⌜ Ends (readingOf (now (words .entry)) (now (held .entry)) len) (now (words .entry)) (now (out .entry)) at end (now (out .exit)) (now (words .exit))
-        × Beside (now (words .exit)) (now (told .exit)) (now (kept .exit)) ⌝ }
+        × Beside (now (words .exit)) (now (rows .exit)) (now (next .exit)) (now (told .exit)) (now (kept .exit)) ⌝ }
 {
     let line = &held[0..len];
     if line.len() == 0 {

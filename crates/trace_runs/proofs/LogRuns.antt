@@ -1,21 +1,21 @@
--- A log that makes a device and goes on with events is answered by the lines of the device's run, and no log is answered by another refusal than 7. Assumes nothing.
+-- A log that makes devices and goes on with events of them is answered by the lines of the devices' runs, and no log is answered by another refusal than 7. Assumes nothing.
 use mathlib.Core.Path.{_≡_, refl, sym, ap, _∙_}
 use mathlib.Core.Bool.{Bool, true, false, cond}
-use mathlib.Core.List.{List, [], _∷_, _++_}
+use mathlib.Core.List.{List, [], _∷_, _++_, append-assoc}
 use mathlib.Core.Logic.{inl, inr}
-use Prim.Native.Nat.{ℕ, _^_}
+use Prim.Native.Nat.{ℕ, zero, suc, _^_}
 use native.Mathlib.Omega.{arith}
 use borrow.Author.Tests.{le-leb, lt-ltb, eqb-true}
 use lib.Dec.{eqb, ltb}
-use Rattle.map.specs.Map.{part24}
+use Rattle.map.specs.Map.{Part, part34, partOf}
 use Rattle.device_rules.specs.Device.{State, Outcome, out}
 use Rattle.device_rules.specs.Answers.{refusalNumber}
 use Rattle.device_rules.specs.declared.Answer.the-variants.{Nothing}
 use Rattle.device_rules.specs.Refusals.{argumentFits, refusal, stepped, eventOf}
 use Rattle.device_rules.specs.PowerOn.{powerOn}
 use Rattle.device_rules.proofs.Images.{taken}
-use Rattle.device_demands.specs.Run.{Asked, seenFrom, run}
-use Rattle.device_demands.proofs.Lawful.{lawful24}
+use Rattle.device_demands.specs.Run.{Asked, after, seenFrom, run}
+use Rattle.device_demands.proofs.Lawful.{Lawful, lawful24, lawful34}
 use Rattle.device_demands.proofs.Keeps.{WellFormed, image-of, stepped-keeps, power-on-fits}
 use Rattle.device_demands.proofs.Runs.{step-answers}
 use Rattle.trace_lines.specs.Lines.{lineOf, Taken, Means}
@@ -23,75 +23,104 @@ use Rattle.trace_lines.specs.declared.Line.{Line}
 use Rattle.trace_lines.specs.declared.Line.the-variants.{Device, Event, Unreadable}
 use Rattle.trace_lines.proofs.Laws.{line-means}
 use Rattle.text_answers.specs.Answers.{answerLine, shownText, shownLine}
-use Rattle.trace_session.specs.Tracing.{Session, traced}
+use Rattle.trace_session.specs.Tracing.{Session, partIn, traced, answerTo}
 use Rattle.trace_session.specs.Tracing.Session.{NoDevice, With}
 use Rattle.trace_logs.specs.Logs.{header, linesOf, answersFrom, answersOf}
-use Rattle.trace_runs.specs.LogRuns.{seenLines, SayEvents, Answered, AllAnswered}
+use Rattle.trace_runs.specs.LogRuns.{Life, seenLines, lifeLines, livesLines, SayEvents, SayLife, SayLives, allLines, Answered, AllAnswered}
 
--- ---- a log and a run
-events-seen : (s : State) (lines : List (List ℕ)) (es : List Asked) → SayEvents lines es → answersFrom (With s) lines ≡ seenLines (seenFrom part24 s es)
-unfolding answersFrom seenLines seenFrom traced shownLine shownText answerLine
-events-seen s [] [] says = refl
-events-seen s [] (e ∷ es) says = absurd says
-events-seen s (l ∷ lines) [] says = absurd says
-events-seen s (l ∷ lines) (e ∷ es) says =
-    ap (λ (x : Line). traced (With s) x .line ++ answersFrom (traced (With s) x .after) lines) (says .0)
-    ∙ ap (λ (t : List ℕ). shownLine part24 (stepped part24 s (e .kind) (e .arg)) ++ t) (events-seen (stepped part24 s (e .kind) (e .arg) .after) lines es (says .1))
+-- ---- a log and the runs
+-- events of a device, and the lines behind them
+events-seen : (part : ℕ) (s : State) (lines more : List (List ℕ)) (es : List Asked) → SayEvents (partOf part) lines es
+    → answersFrom (With part s) (lines ++ more) ≡ seenLines (partOf part) (seenFrom (partOf part) s es) ++ answersFrom (With part (after (partOf part) s es)) more
+unfolding answersFrom seenLines seenFrom after traced shownLine shownText answerLine
+events-seen part s [] more [] says = refl
+events-seen part s [] more (e ∷ es) says = absurd says
+events-seen part s (l ∷ lines) more [] says = absurd says
+events-seen part s (l ∷ lines) more (e ∷ es) says =
+    let p : Part = partOf part in
+    let o : Outcome = stepped p s (e .kind) (e .arg) in
+    ap (λ (x : Line). traced (With part s) x .line ++ answersFrom (traced (With part s) x .after) (lines ++ more)) (says .0)
+    ∙ ap (λ (t : List ℕ). shownLine p o ++ t) (events-seen part (o .after) lines more es (says .1))
+    ∙ sym (append-assoc (shownLine p o) (seenLines p (seenFrom p (o .after) es)) (answersFrom (With part (after p (o .after) es)) more))
 
--- a log whose first line makes a device, and whose other lines are events, is answered by the header and the lines of the run from that power-on
-pub log-run : (log first : List ℕ) (lines : List (List ℕ)) (choice levels : ℕ) (es : List Asked) → linesOf [] log ≡ first ∷ lines → lineOf first ≡ Device choice levels → SayEvents lines es
-    → answersOf log ≡ header ++ seenLines (run part24 choice levels es)
-unfolding answersOf answersFrom seenLines traced shownLine shownText answerLine
-log-run log first lines choice levels es all made says =
-    ap (λ (x : List (List ℕ)). header ++ answersFrom NoDevice x) all
-    ∙ ap (λ (x : Line). header ++ (traced NoDevice x .line ++ answersFrom (traced NoDevice x .after) lines)) made
-    ∙ ap (λ (t : List ℕ). header ++ (shownLine part24 (out Nothing (powerOn part24 choice levels)) ++ t)) (events-seen (powerOn part24 choice levels) lines es says)
+-- a device's life, whatever there was before
+life-seen : (x : Session) (lines more : List (List ℕ)) (d : Life) → SayLife (partIn x) lines d
+    → answersFrom x (lines ++ more)
+    ≡ lifeLines d ++ answersFrom (With (d .part) (after (partOf (d .part)) (powerOn (partOf (d .part)) (d .choice) (d .levels)) (d .events))) more
+unfolding answersFrom seenLines traced shownLine shownText answerLine
+life-seen x [] more d says = absurd says
+life-seen x (l ∷ lines) more d says =
+    let p : Part = partOf (d .part) in
+    let s : State = powerOn p (d .choice) (d .levels) in
+    ap (λ (y : Line). traced x y .line ++ answersFrom (traced x y .after) (lines ++ more)) (says .0)
+    ∙ ap (λ (t : List ℕ). shownLine p (out Nothing s) ++ t) (events-seen (d .part) s lines more (d .events) (says .1))
+    ∙ sym (append-assoc (shownLine p (out Nothing s)) (seenLines p (seenFrom p s (d .events))) (answersFrom (With (d .part) (after p s (d .events))) more))
+
+lives-seen : (x : Session) (groups : List (List (List ℕ))) (ds : List Life) → SayLives (partIn x) groups ds → answersFrom x (allLines groups) ≡ livesLines ds
+unfolding answersFrom allLines livesLines
+lives-seen x [] [] says = refl
+lives-seen x [] (d ∷ ds) says = absurd says
+lives-seen x (lines ∷ groups) [] says = absurd says
+lives-seen x (lines ∷ groups) (d ∷ ds) says =
+    let s : State = after (partOf (d .part)) (powerOn (partOf (d .part)) (d .choice) (d .levels)) (d .events) in
+    life-seen x lines (allLines groups) d (says .0) ∙ ap (λ (t : List ℕ). lifeLines d ++ t) (lives-seen (With (d .part) s) groups ds (says .1))
+
+-- a log that makes devices of either part, one after the other, each with events of it, is answered by the header and the lines of their runs from power-on
+pub log-run : (log : List ℕ) (groups : List (List (List ℕ))) (ds : List Life) → linesOf [] log ≡ allLines groups → SayLives part34 groups ds → answersOf log ≡ header ++ livesLines ds
+unfolding answersOf
+log-run log groups ds all says =
+    ap (λ (x : List (List ℕ)). header ++ answersFrom NoDevice x) all ∙ ap (λ (t : List ℕ). header ++ t) (lives-seen NoDevice groups ds says)
 
 -- ---- refusals
+lawful : (part : ℕ) → Lawful (partOf part)
+lawful zero = lawful24
+lawful (suc n) = lawful34
+
 abbrev Fine : Session → Type 0
 Fine NoDevice = Unit {0}
-Fine (With s) = WellFormed part24 s
+Fine (With part s) = WellFormed (partOf part) s
 
 -- an event that a line says is not refused by a well-formed device
-fits : (kind arg : ℕ) → Taken kind arg → argumentFits part24 kind arg ≡ true
-fits kind arg t = two (eqb kind 2) refl
-  where
-    two : (b : Bool) → eqb kind 2 ≡ b → cond b (ltb arg 256) (cond (eqb kind 3) (ltb arg 2) (cond (eqb kind 4) (ltb arg (2 ^ 24)) true)) ≡ true
-    two true e = lt-ltb arg 256 (omega (arith, t .1 (eqb-true kind 2 e)))
-    two false e = three (eqb kind 3) refl
-      where
-        three : (b : Bool) → eqb kind 3 ≡ b → cond b (ltb arg 2) (cond (eqb kind 4) (ltb arg (2 ^ 24)) true) ≡ true
-        three true e = lt-ltb arg 2 (omega (arith, t .2 (eqb-true kind 3 e)))
-        three false e = four (eqb kind 4) refl
-          where
-            four : (b : Bool) → eqb kind 4 ≡ b → cond b (ltb arg (2 ^ 24)) true ≡ true
-            four true e = lt-ltb arg (2 ^ 24) (omega (arith, t .3 (eqb-true kind 4 e)))
-            four false e = refl
+module _ (p : Part) where
+  fits : (kind arg : ℕ) → Taken p kind arg → argumentFits p kind arg ≡ true
+  fits kind arg t = two (eqb kind 2) refl
+    where
+      two : (b : Bool) → eqb kind 2 ≡ b → cond b (ltb arg 256) (cond (eqb kind 3) (ltb arg 2) (cond (eqb kind 4) (ltb arg (2 ^ p .width)) true)) ≡ true
+      two true e = lt-ltb arg 256 (omega (arith, t .1 (eqb-true kind 2 e)))
+      two false e = three (eqb kind 3) refl
+        where
+          three : (b : Bool) → eqb kind 3 ≡ b → cond b (ltb arg 2) (cond (eqb kind 4) (ltb arg (2 ^ p .width)) true) ≡ true
+          three true e = lt-ltb arg 2 (omega (arith, t .2 (eqb-true kind 3 e)))
+          three false e = four (eqb kind 4) refl
+            where
+              four : (b : Bool) → eqb kind 4 ≡ b → cond b (ltb arg (2 ^ p .width)) true ≡ true
+              four true e = lt-ltb arg (2 ^ p .width) (t .3 (eqb-true kind 4 e))
+              four false e = refl
 
-unrefused : (s : State) → WellFormed part24 s → (kind arg : ℕ) → Taken kind arg → refusal part24 s kind arg ≡ 0
-unfolding refusal
-unrefused s g kind arg t = simp (image-of part24 s (g .sound), le-leb kind 5 (t .0), fits kind arg t)
+  module _ (s : State) (g : WellFormed p s) (kind arg : ℕ) (t : Taken p kind arg) where
+    unrefused : refusal p s kind arg ≡ 0
+    unfolding refusal
+    unrefused = simp (image-of p s (g .sound), le-leb kind 5 (t .0), fits kind arg t)
 
-answers : (s : State) → WellFormed part24 s → (kind arg : ℕ) → Taken kind arg → refusalNumber (stepped part24 s kind arg .answer) ≡ 0
-answers s g kind arg t =
-    ap (λ (o : Outcome). refusalNumber (o .answer)) (sym (taken part24 s kind arg (unrefused s g kind arg t))) ∙ step-answers part24 s (eventOf kind arg)
+    answers : refusalNumber (stepped p s kind arg .answer) ≡ 0
+    answers = ap (λ (o : Outcome). refusalNumber (o .answer)) (sym (taken p s kind arg unrefused)) ∙ step-answers p s (eventOf kind arg)
 
 -- each line's answer, and what there is after it
-said : (x : Session) → Fine x → (l : Line) → Means l → Answered (traced x l .line) × Fine (traced x l .after)
+said : (x : Session) → Fine x → (l : Line) → Means (partIn x) l → Answered (traced x l .line) × Fine (traced x l .after)
 unfolding traced
 said x g Unreadable m = (inl refl, g)
-said x g (Device choice levels) m =
-    let h = m .makes choice levels refl in
-    (inr (out Nothing (powerOn part24 choice levels), refl, refl), power-on-fits part24 lawful24 choice levels (omega (arith, h)) (omega (arith, h)))
+said x g (Device part choice levels) m =
+    let h = m .makes part choice levels refl in
+    (inr (part, out Nothing (powerOn (partOf part) choice levels), refl, refl), power-on-fits (partOf part) (lawful part) choice levels (omega (arith, h .1)) (h .2))
 said NoDevice g (Event kind arg) m = (inl refl, tt)
-said (With s) g (Event kind arg) m =
-    (inr (stepped part24 s kind arg, answers s g kind arg (m .takes kind arg refl), refl), stepped-keeps part24 lawful24 s g kind arg)
+said (With part s) g (Event kind arg) m =
+    (inr (part, stepped (partOf part) s kind arg, answers (partOf part) s g kind arg (m .takes kind arg refl), refl), stepped-keeps (partOf part) (lawful part) s g kind arg)
 
 all-answered : (x : Session) → Fine x → (lines : List (List ℕ)) → AllAnswered x lines
 all-answered x g [] = tt
 all-answered x g (l ∷ lines) =
-    let here = said x g (lineOf l) (line-means l) in
-    (here .0, all-answered (traced x (lineOf l) .after) (here .1) lines)
+    let here = said x g (lineOf (partIn x) l) (line-means (partIn x) l) in
+    (here .0, all-answered (answerTo x l .after) (here .1) lines)
 
 -- every line of every log is answered, and by no refusal but 7
 pub no-refusal-but-7 : (log : List ℕ) → AllAnswered NoDevice (linesOf [] log)

@@ -1,17 +1,17 @@
 -- Each of the code's cases says what `traced` gives for its line. Assumes nothing.
 use mathlib.Core.Path.{_≡_, refl, ap, sym, _∙_}
-use mathlib.Core.Bool.{Bool, cond}
+use mathlib.Core.Bool.{Bool, true, cond}
 use mathlib.Core.List.{List}
-use Prim.Native.Nat.{ℕ, _<_, _≤_}
+use Prim.Native.Nat.{ℕ, zero, suc, _<_, _≤_}
 use native.Mathlib.Omega.{arith}
-use borrow.Author.Tests.{eq-eqb, ne-eqb}
-use lib.Dec.{eqb}
+use borrow.Author.Tests.{lt-ltb, le-ltb}
+use lib.Dec.{eqb, ltb}
 use lib.ListN.{length, getD}
 use Rattle.bits.proofs.Decide.{clash}
 use Rattle.bits.proofs.Laws.{tabulate-ext}
 use Rattle.pins.specs.Pin.{isLow, isHigh}
 use Rattle.pins.specs.OnePin.{driveOf}
-use Rattle.map.specs.Map.{Part, part24, partOf}
+use Rattle.map.specs.Map.{Part, partOf, Stepping}
 use Rattle.registers.specs.Registers.{onePin, intAsserted, drivenLow, drivenHigh}
 use Rattle.registers.proofs.Kept.{line-right}
 use Rattle.device_rules.specs.Device.{Outcome, out}
@@ -22,7 +22,10 @@ use Rattle.device_rules.specs.PowerOn.{powerOn}
 use Rattle.words.specs.Words.{coreIn, interruptIn}
 use Rattle.words.proofs.Sound.{sound}
 use Rattle.words.proofs.Showing.{one-pin}
+use Rattle.words_rows.specs.Rows.{Rowed}
 use Rattle.words_bus.specs.Packed.{stateIn, Packed}
+use Rattle.words_device.specs.Named.{Named}
+use Rattle.words_device.proofs.Naming.{named}
 use Rattle.text.specs.Text.{Wrote}
 use Rattle.text.proofs.Laws.{wrote-as}
 use Rattle.trace_lines.specs.declared.Line.{Line}
@@ -31,7 +34,7 @@ use Rattle.trace_lines.specs.Lines.{lineOf}
 use Rattle.text_answers.specs.Answers.{Keeps, answerLine, shownLine, refusedLine}
 use Rattle.text_answers.proofs.Laws.{told-line, refused-short, told-short}
 use Rattle.trace_session.specs.Tracing.Session.{NoDevice, With}
-use Rattle.trace_session.specs.Tracing.{Session, Traced, sessionOf, toldBy, unreadable, traced, Kept, Says, Told, KeepsOf, Beside}
+use Rattle.trace_session.specs.Tracing.{Session, Traced, sessionOf, partIn, toldBy, unreadable, traced, answerTo, Kept, Says, Tables, Told, KeepsOf, Fresh, Beside}
 
 -- ---- the columns
 -- they depend on the words that are told
@@ -62,28 +65,33 @@ pub keeps-as : (p : Part) (words kept : List ℕ) {int : Bool} {low high : ℕ} 
 keeps-as p words kept k e f g = rw (← e, ← f, ← g) k
 
 -- written anew, the text is of every device that has these words
-pub beside-anew : (words told kept : List ℕ) → Packed (getD words 27 0) words → Told words told → length kept ≡ 22 → KeepsOf (partOf (getD words 27 0)) words kept → Beside words told kept
-beside-anew words told kept k t long keeps = record { long = long; fresh = λ w kw tw. keeps-same (getD words 27 0) told w words tw t kw k kept keeps }
+pub fresh-anew : (words told kept : List ℕ) → Named words → Told words told → length kept ≡ 22 → KeepsOf (partOf (getD words 27 0)) words kept → Fresh words told kept
+fresh-anew words told kept k t long keeps = record { long = long; fresh = λ w kw tw. keeps-same (getD words 27 0) told w words tw t kw k kept keeps }
 
--- before a device any text will do
-pub beside-start : (words told kept : List ℕ) → getD words 27 0 ≡ 2 → length kept ≡ 22 → Beside words told kept
-beside-start words told kept e long = record { long = long; fresh = λ w k t. absurd (omega (arith, k .known-part, e)) }
+-- before a device any text will do, and any tables
+pub beside-start : (words rows next told kept : List ℕ) → getD words 27 0 ≡ 2 → length kept ≡ 22 → Beside words rows next told kept
+beside-start words rows next told kept e long =
+    (record { rowed = λ few. absurd (omega (arith, few, e)); stepping = λ few. absurd (omega (arith, few, e)) }, record { long = long; fresh = λ w k t. absurd (omega (arith, k .known-part, e)) })
 
--- it stays where the part does
-pub beside-on : (words words′ told kept : List ℕ) → getD words 27 0 ≡ getD words′ 27 0 → Beside words told kept → Beside words′ told kept
-beside-on words words′ told kept e b = record { long = b .long; fresh = rw e at (b .fresh) }
+-- the tables of the part that the words are made of
+pub tables-anew : (c : ℕ) (words rows next : List ℕ) → Packed c words → Rowed (partOf c) rows → Stepping (partOf c) next → Tables words rows next
+tables-anew c words rows next k r n = record { rowed = λ few. rw (k .part-is) r; stepping = λ few. rw (k .part-is) n }
 
--- words that are packed are those of the part that they name
-pub packed-here : {c : ℕ} {w : List ℕ} → Packed c w → Packed (getD w 27 0) w
-packed-here k = rw (k .part-is) k
+-- both stay where the part does
+module _ (words words′ : List ℕ) (e : getD words 27 0 ≡ getD words′ 27 0) where
+  pub fresh-on : (told kept : List ℕ) → Fresh words told kept → Fresh words′ told kept
+  fresh-on told kept b = record { long = b .long; fresh = rw e at (b .fresh) }
+
+  pub tables-on : (rows next : List ℕ) → Tables words rows next → Tables words′ rows next
+  tables-on rows next t = record { rowed = rw e at (t .rowed); stepping = rw e at (t .stepping) }
 
 -- a line that is put with the text that is kept is the device's
-pub kept-line : {words told kept : List ℕ} (a : Answer) {out₀ : List ℕ} {at end : ℕ} {left : List ℕ} → Packed 0 words → Beside words told kept → Told words told
+pub kept-line : (c : ℕ) {words told kept : List ℕ} (a : Answer) {out₀ : List ℕ} {at end : ℕ} {left : List ℕ} → Packed c words → Fresh words told kept → Told words told
     → ((int : Bool) (low high : ℕ) → Keeps (partOf (getD words 27 0)) kept int low high → Wrote out₀ at (answerLine (partOf (getD words 27 0)) a int low high) end left)
-    → Wrote out₀ at (shownLine part24 (out a (stateIn part24 words))) end left
-kept-line {words} a k b t put =
+    → Wrote out₀ at (shownLine (partOf c) (out a (stateIn (partOf c) words))) end left
+kept-line c {words} a k b t put =
     let p : Part = partOf (getD words 27 0) in
-    wrote-as (told-line p a (stateIn p words) _ _ _ refl refl refl ∙ ap (λ (c : ℕ). shownLine (partOf c) (out a (stateIn (partOf c) words))) (k .part-is)) (put _ _ _ (b .fresh words (packed-here k) t))
+    wrote-as (told-line p a (stateIn p words) _ _ _ refl refl refl ∙ ap (λ (c : ℕ). shownLine (partOf c) (out a (stateIn (partOf c) words))) (k .part-is)) (put _ _ _ (b .fresh words (named c words k) t))
 
 -- ---- the cases
 -- what is said may be said in another way
@@ -91,37 +99,49 @@ pub says-as : {t u : Traced} {words₀ out : List ℕ} {at end : ℕ} {left word
 says-as e s = rw e at s
 
 -- a line of a device that is as it is after it
-pub told-said : (words₀ words : List ℕ) (a : Answer) {o : Outcome} {out₀ : List ℕ} {at end : ℕ} {left : List ℕ} → Packed 0 words → out a (stateIn part24 words) ≡ o
-    → Wrote out₀ at (shownLine part24 (out a (stateIn part24 words))) end left → Says (toldBy o) words₀ out₀ at end left words
-told-said words₀ words a k e w = record {
-  says = wrote-as (ap (shownLine part24) e) w;
-  goes-on = ap (λ (b : Bool). cond b (With (stateIn part24 words)) NoDevice) (eq-eqb (getD words 27 0) 0 (k .part-is)) ∙ ap (λ (o : Outcome). With (o .after)) e;
-  kept = λ h. k;
-  untouched = λ h. clash (eqb (getD words 27 0) 0) (eq-eqb (getD words 27 0) 0 (k .part-is)) h;
-}
+pub told-said : (c : ℕ) (words₀ words : List ℕ) (a : Answer) {o : Outcome} {out₀ : List ℕ} {at end : ℕ} {left : List ℕ} → Packed c words → out a (stateIn (partOf c) words) ≡ o
+    → Wrote out₀ at (shownLine (partOf c) (out a (stateIn (partOf c) words))) end left → Says (toldBy c o) words₀ out₀ at end left words
+told-said c words₀ words a k e w =
+    let few : ltb c 2 ≡ true = lt-ltb c 2 (k .known-part) in
+    record {
+      says = wrote-as (ap (shownLine (partOf c)) e) w;
+      goes-on = ap (λ (n : ℕ). cond (ltb n 2) (With n (stateIn (partOf n) words)) NoDevice) (k .part-is) ∙ ap (λ (b : Bool). cond b (With c (stateIn (partOf c) words)) NoDevice) few ∙ ap (λ (o : Outcome). With c (o .after)) e;
+      kept = λ h. named c words k;
+      untouched = λ h. clash (ltb (getD words 27 0) 2) (ap (λ (n : ℕ). ltb n 2) (k .part-is) ∙ few) h;
+    }
 
 -- refusal 7
 pub refused-said : (words : List ℕ) {out₀ : List ℕ} {at end : ℕ} {left : List ℕ} → Kept words → Wrote out₀ at (refusedLine 7) end left → Says (unreadable (sessionOf words)) words out₀ at end left words
 refused-said words k w = record { says = w; goes-on = refl; kept = k; untouched = λ h. refl }
 
 module _ (words : List ℕ) (kind arg : ℕ) where
-  pub event-told : getD words 27 0 ≡ 0 → toldBy (stepped part24 (stateIn part24 words) kind arg) ≡ traced (sessionOf words) (Event kind arg)
+  pub event-told : getD words 27 0 < 2
+      → toldBy (getD words 27 0) (stepped (partOf (getD words 27 0)) (stateIn (partOf (getD words 27 0)) words) kind arg) ≡ traced (sessionOf words) (Event kind arg)
   unfolding traced
-  event-told h = rw (eq-eqb (getD words 27 0) 0 h)
+  event-told h = rw (lt-ltb (getD words 27 0) 2 h)
 
-  pub event-refused : (getD words 27 0 ≡ 0 → ⊥) → unreadable (sessionOf words) ≡ traced (sessionOf words) (Event kind arg)
+  pub event-refused : 2 ≤ getD words 27 0 → unreadable (sessionOf words) ≡ traced (sessionOf words) (Event kind arg)
   unfolding traced
-  event-refused h = rw (ne-eqb (getD words 27 0) 0 h)
+  event-refused h = rw (le-ltb (getD words 27 0) 2 h)
 
-module _ (x : Session) (said : Line) (line : List ℕ) (read : said ≡ lineOf line) where
-  pub device-told : {choice levels : ℕ} → said ≡ MadeLine choice levels → toldBy (out Nothing (powerOn part24 choice levels)) ≡ traced x (lineOf line)
+-- the part that the words name is the session's
+pub line-here : (words text : List ℕ) → lineOf (partOf (getD words 27 0)) text ≡ lineOf (partIn (sessionOf words)) text
+line-here words text = ap (λ (p : Part). lineOf p text) (sym (go (getD words 27 0)))
+  where
+    go : (n : ℕ) → partIn (cond (ltb n 2) (With n (stateIn (partOf (getD words 27 0)) words)) NoDevice) ≡ partOf n
+    go zero = refl
+    go (suc zero) = refl
+    go (suc (suc n)) = rw (le-ltb (suc (suc n)) 2 (omega arith))
+
+module _ (x : Session) (said : Line) (text : List ℕ) (read : said ≡ lineOf (partIn x) text) where
+  pub device-told : {part choice levels : ℕ} → said ≡ MadeLine part choice levels → toldBy part (out Nothing (powerOn (partOf part) choice levels)) ≡ answerTo x text
   unfolding traced
   device-told e = rw (← read, e)
 
-  pub event-said : {kind arg : ℕ} → said ≡ Event kind arg → traced x (Event kind arg) ≡ traced x (lineOf line)
+  pub event-said : {kind arg : ℕ} → said ≡ Event kind arg → traced x (Event kind arg) ≡ answerTo x text
   event-said e = rw (← read, e)
 
-  pub unreadable-said : said ≡ Unreadable → unreadable x ≡ traced x (lineOf line)
+  pub unreadable-said : said ≡ Unreadable → unreadable x ≡ answerTo x text
   unfolding traced
   unreadable-said e = rw (← read, e)
 
@@ -129,6 +149,6 @@ module _ (x : Session) (said : Line) (line : List ℕ) (read : said ≡ lineOf l
 pub traced-short : (x : Session) (l : Line) → length (traced x l .line) ≤ 26
 unfolding traced
 traced-short x Unreadable = omega (arith, refused-short 7)
-traced-short x (MadeLine choice levels) = told-short 0 (out Nothing (powerOn part24 choice levels))
+traced-short x (MadeLine part choice levels) = told-short part (out Nothing (powerOn (partOf part) choice levels))
 traced-short NoDevice (Event kind arg) = omega (arith, refused-short 7)
-traced-short (With s) (Event kind arg) = told-short 0 (stepped part24 s kind arg)
+traced-short (With part s) (Event kind arg) = told-short part (stepped (partOf part) s kind arg)

@@ -2,38 +2,46 @@
 use mathlib.Core.Path.{_≡_}
 use mathlib.Core.Bool.{true, false, cond}
 use mathlib.Core.List.{List}
-use Prim.Native.Nat.{ℕ}
-use lib.Dec.{eqb}
+use Prim.Native.Nat.{ℕ, _<_}
+use lib.Dec.{ltb}
 use lib.ListN.{length, getD}
-use Rattle.map.specs.Map.{Part, part24, partOf}
+use Rattle.map.specs.Map.{Part, part34, partOf, Stepping}
 use Rattle.registers.specs.Registers.{intAsserted, drivenLow, drivenHigh}
 use Rattle.device_rules.specs.Device.{State, Outcome, out}
 use Rattle.device_rules.specs.declared.Answer.the-variants.{Nothing}
 use Rattle.device_rules.specs.Refusals.{stepped}
 use Rattle.device_rules.specs.PowerOn.{powerOn}
 use Rattle.words.specs.Words.{coreIn, lineWord, configurationWord, outputWord, portKindWord, pinKindWord}
+use Rattle.words_rows.specs.Rows.{Rowed}
 use Rattle.words_bus.specs.Packed.{partWord, stateIn, Packed}
+use Rattle.words_device.specs.Named.{Named}
 use Rattle.text.specs.Text.{Wrote}
 use Rattle.trace_lines.specs.declared.Line.{Line}
 use Rattle.trace_lines.specs.declared.Line.the-variants.{Device, Event, Unreadable}
+use Rattle.trace_lines.specs.Lines.{lineOf}
 use Rattle.text_answers.specs.Answers.{Keeps, shownLine, refusedLine}
 
--- no device yet, or one in this state
+-- no device yet, or one of this part in this state
 pub data Session : Type 0 where
   NoDevice : Session
-  With : State → Session
+  With : (part : ℕ) → State → Session
 
 -- what the words hold: a device, once a line has made one; before that they name no part
 abbrev pub sessionOf : (words : List ℕ) → Session
-sessionOf w = cond (eqb (getD w partWord 0) 0) (With (stateIn part24 w)) NoDevice
+sessionOf w = cond (ltb (getD w partWord 0) 2) (With (getD w partWord 0) (stateIn (partOf (getD w partWord 0)) w)) NoDevice
+
+-- the part whose levels a line can say: the device's. Before a device no event is answered, whatever it says.
+abbrev pub partIn : Session → Part
+partIn NoDevice = part34
+partIn (With part s) = partOf part
 
 -- the line that answers, and what there is after it
 pub record Traced : Type 0 where
   pub line : List ℕ
   pub after : Session
 
-abbrev pub toldBy : Outcome → Traced
-toldBy o = record { line = shownLine part24 o; after = With (o .after) }
+abbrev pub toldBy : (part : ℕ) → Outcome → Traced
+toldBy part o = record { line = shownLine (partOf part) o; after = With part (o .after) }
 
 -- refusal 7: nothing changes
 abbrev pub unreadable : Session → Traced
@@ -42,13 +50,22 @@ unreadable x = record { line = refusedLine 7; after = x }
 -- An event before a device is unreadable; a device line starts anew.
 unfoldable pub traced : Session → Line → Traced
 traced x Unreadable = unreadable x
-traced x (Device choice levels) = toldBy (out Nothing (powerOn part24 choice levels))
+traced x (Device part choice levels) = toldBy part (out Nothing (powerOn (partOf part) choice levels))
 traced NoDevice (Event kind arg) = unreadable NoDevice
-traced (With s) (Event kind arg) = toldBy (stepped part24 s kind arg)
+traced (With part s) (Event kind arg) = toldBy part (stepped (partOf part) s kind arg)
+
+-- the answer to a line of text
+abbrev pub answerTo : Session → (text : List ℕ) → Traced
+answerTo x text = traced x (lineOf (partIn x) text)
 
 -- a device that the words hold is well formed: nothing of refusal 3 is left to test
 abbrev pub Kept : (words : List ℕ) → Type 0
-Kept w = eqb (getD w partWord 0) 0 ≡ true → Packed 0 w
+Kept w = ltb (getD w partWord 0) 2 ≡ true → Named w
+
+-- the tables that are lent beside the words are those of the device's part
+pub record Tables (words rows next : List ℕ) : Type 0 where
+  pub rowed : getD words partWord 0 < 2 → Rowed (partOf (getD words partWord 0)) rows
+  pub stepping : getD words partWord 0 < 2 → Stepping (partOf (getD words partWord 0)) next
 
 -- the words that the columns depend on were these when they were told: line, configuration, output, output port kind and pin output kind
 abbrev pub Told : (words told : List ℕ) → Type 0
@@ -60,14 +77,17 @@ Told w told =
 abbrev pub KeepsOf : Part → (words kept : List ℕ) → Type 0
 KeepsOf p w kept = Keeps p kept (intAsserted p (coreIn p w)) (drivenLow p (coreIn p w)) (drivenHigh p (coreIn p w))
 
--- what is lent beside the words: a text with the columns of every device of their part that has the words that were told
-pub record Beside (words told kept : List ℕ) : Type 0 where
+-- the text that is lent beside the words: it has the columns of every device of their part that has the words that were told
+pub record Fresh (words told kept : List ℕ) : Type 0 where
   pub long : length kept ≡ 22
   pub fresh : (w : List ℕ) → Packed (getD words partWord 0) w → Told w told → KeepsOf (partOf (getD words partWord 0)) w kept
+
+abbrev pub Beside : (words rows next told kept : List ℕ) → Type 0
+Beside words rows next told kept = Tables words rows next × Fresh words told kept
 
 -- the line written from at on, and what the words hold after it; where there is still no device, they are as they were
 pub record Says (t : Traced) (words₀ : List ℕ) (out : List ℕ) (at end : ℕ) (left words : List ℕ) : Type 0 where
   pub says : Wrote out at (t .line) end left
   pub goes-on : sessionOf words ≡ t .after
   pub kept : Kept words
-  pub untouched : eqb (getD words partWord 0) 0 ≡ false → words ≡ words₀
+  pub untouched : ltb (getD words partWord 0) 2 ≡ false → words ≡ words₀

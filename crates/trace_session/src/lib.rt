@@ -1,21 +1,18 @@
-// The trace program's work: one line in, one line out, on words that the caller lends, beside them the text of the columns: few events change it.
+// The trace program's work: one line in, one line out, on words that the caller lends, beside them the tables of the device's part and the text of the columns, which few events change.
 ghost use mathlib.Core.Path.{_≡_};
 ghost use mathlib.Core.Bool.{true};
 ghost use Prim.Native.Nat.{_+_, _^_, _<_, _≤_};
 ghost use lib.ListN.{length};
-ghost use Rattle.map.specs.Map.{part24, Stepping};
-ghost use Rattle.words_rows.specs.Rows.{Rowed};
+ghost use Rattle.map.specs.Map.{partOf};
 ghost use Rattle.device_rules.specs.Device.{out as outcome};
 ghost use Rattle.device_rules.specs.declared.Answer.the-variants.{Nothing};
 ghost use Rattle.device_rules.specs.PowerOn.{powerOn};
-ghost use Rattle.words_bus.specs.Packed.{Packed};
+ghost use Rattle.words_device.specs.Named.{Named};
 ghost use Rattle.text.specs.Text.{Wrote};
-ghost use Rattle.trace_lines.specs.Lines.{lineOf};
 ghost use Rattle.text_answers.specs.Answers.{refusedLine};
-ghost use Rattle.trace_session.specs.Tracing.{sessionOf, traced, toldBy, Kept, Says, Told, Beside};
+ghost use Rattle.trace_session.specs.Tracing.{sessionOf, traced, answerTo, toldBy, Kept, Says, Told, Fresh, Beside};
 use device_rules::Answer;
 use device_rules::UNREADABLE;
-use map::PINS24;
 use trace_lines::Line;
 use words::CONFIGURATION;
 use words::LINE;
@@ -56,8 +53,8 @@ fn is_told(words: &[u64; 28], told: &[u64; 5]) -> bool
 
 // The text of the columns, written anew.
 fn refresh(words: &[u64; 28], told: &mut [u64; 5], kept: &mut [u8; 22])
-    requires { ⌜ Packed 0 (now words) ⌝ }
-    ensures { λ r. ⌜ Beside (now (words .entry)) (now (told .exit)) (now (kept .exit)) × Told (now (words .entry)) (now (told .exit)) ⌝ }
+    requires { ⌜ Named (now words) ⌝ }
+    ensures { λ r. ⌜ Fresh (now (words .entry)) (now (told .exit)) (now (kept .exit)) × Told (now (words .entry)) (now (told .exit)) ⌝ }
 {
     *told = [
         words[LINE],
@@ -67,15 +64,15 @@ fn refresh(words: &[u64; 28], told: &mut [u64; 5], kept: &mut [u8; 22])
         words[PIN_KIND],
     ];
     let int = words_views::int(words);
-    let low = words_views::low(words, PINS24);
+    let low = words_views::low(words, map::pins_of(words[PART]));
     let high = words_views::high(words);
     text_answers::keep(kept, words[PART], int, low, high);
 }
 
 // The text of the columns, written anew if they changed.
 fn renew(words: &[u64; 28], told: &mut [u64; 5], kept: &mut [u8; 22])
-    requires { ⌜ Packed 0 (now words) × Beside (now words) (now told) (now kept) ⌝ }
-    ensures { λ r. ⌜ Beside (now (words .entry)) (now (told .exit)) (now (kept .exit)) × Told (now (words .entry)) (now (told .exit)) ⌝ }
+    requires { ⌜ Named (now words) × Fresh (now words) (now told) (now kept) ⌝ }
+    ensures { λ r. ⌜ Fresh (now (words .entry)) (now (told .exit)) (now (kept .exit)) × Told (now (words .entry)) (now (told .exit)) ⌝ }
 {
     if is_told(words, &*told) {
         return;
@@ -83,21 +80,26 @@ fn renew(words: &[u64; 28], told: &mut [u64; 5], kept: &mut [u8; 22])
     refresh(words, told, kept);
 }
 
-// A device anew.
+// A device anew, and the tables of its part.
 fn make(
     words: &mut [u64; 28],
+    rows: &mut [u32; 128],
+    next: &mut [u8; 128],
     told: &mut [u64; 5],
     kept: &mut [u8; 22],
+    part: u64,
     choice: u8,
     levels: u64,
     out: &mut [u8],
     at: usize,
 ) -> usize
-    requires { ⌜ (choice < 4) × (levels < 2 ^ 24) × (at + 26 ≤ length (now out)) ⌝ }
-    ensures { λ end. ⌜ Says (toldBy (outcome Nothing (powerOn part24 choice levels))) (now (words .entry)) (now (out .entry)) at end (now (out .exit)) (now (words .exit))
-        × Beside (now (words .exit)) (now (told .exit)) (now (kept .exit)) ⌝ }
+    requires { ⌜ (part < 2) × (choice < 4) × (levels < 2 ^ partOf part .width) × (at + 26 ≤ length (now out)) ⌝ }
+    ensures { λ end. ⌜ Says (toldBy part (outcome Nothing (powerOn (partOf part) choice levels))) (now (words .entry)) (now (out .entry)) at end (now (out .exit)) (now (words .exit))
+        × Beside (now (words .exit)) (now (rows .exit)) (now (next .exit)) (now (told .exit)) (now (kept .exit)) ⌝ }
 {
-    words_device::power_on(words, choice, levels);
+    words_device::power_on(words, part, choice, levels);
+    *rows = words_rows::rows_of(part);
+    *next = map::next_of(part);
     refresh(&*words, told, kept);
     text_answers::put_line(out, at, words[PART], Answer::Nothing, &*kept)
 }
@@ -105,8 +107,8 @@ fn make(
 // An event, on the device if there is one.
 fn event(
     words: &mut [u64; 28],
-    rows: &[u32; 128],
-    next: &[u8; 128],
+    rows: &mut [u32; 128],
+    next: &mut [u8; 128],
     told: &mut [u64; 5],
     kept: &mut [u8; 22],
     kind: u32,
@@ -114,12 +116,20 @@ fn event(
     out: &mut [u8],
     at: usize,
 ) -> usize
-    requires { ⌜ Kept (now words) × (at + 26 ≤ length (now out)) × Rowed part24 (now rows) × Stepping part24 (now next) × Beside (now words) (now told) (now kept) ⌝ }
+    requires { ⌜ Kept (now words) × (at + 26 ≤ length (now out)) × Beside (now words) (now rows) (now next) (now told) (now kept) ⌝ }
     ensures { λ end. ⌜ Says (traced (sessionOf (now (words .entry))) (Line.Event kind arg)) (now (words .entry)) (now (out .entry)) at end (now (out .exit)) (now (words .exit))
-        × Beside (now (words .exit)) (now (told .exit)) (now (kept .exit)) ⌝ }
+        × Beside (now (words .exit)) (now (rows .exit)) (now (next .exit)) (now (told .exit)) (now (kept .exit)) ⌝ }
 {
-    if words[PART] == 0 {
-        let answer = words_bus::answer(words_device::event_by(words, rows, next, kind, arg));
+    if words[PART] < NO_PART {
+        let pins = map::pins_of(words[PART]);
+        let answer = words_bus::answer(words_device::event_by(
+            words,
+            &*rows,
+            &*next,
+            pins,
+            kind,
+            arg,
+        ));
         renew(&*words, told, kept);
         return text_answers::put_line(out, at, words[PART], answer, &*kept);
     }
@@ -129,21 +139,25 @@ fn event(
 // One line, without its newline: its answer is written from at on; says where it ends.
 pub fn answer_line(
     words: &mut [u64; 28],
-    rows: &[u32; 128],
-    next: &[u8; 128],
+    rows: &mut [u32; 128],
+    next: &mut [u8; 128],
     told: &mut [u64; 5],
     kept: &mut [u8; 22],
     line: &[u8],
     out: &mut [u8],
     at: usize,
 ) -> usize
-    requires { ⌜ Kept (now words) × (at + 26 ≤ length (now out)) × Rowed part24 (now rows) × Stepping part24 (now next) × Beside (now words) (now told) (now kept) ⌝ }
-    ensures { λ end. ⌜ Says (traced (sessionOf (now (words .entry))) (lineOf (now (line .entry)))) (now (words .entry)) (now (out .entry)) at end (now (out .exit)) (now (words .exit))
-        × Beside (now (words .exit)) (now (told .exit)) (now (kept .exit)) ⌝ }
+    requires { ⌜ Kept (now words) × (at + 26 ≤ length (now out)) × Beside (now words) (now rows) (now next) (now told) (now kept) ⌝ }
+    ensures { λ end. ⌜ Says (answerTo (sessionOf (now (words .entry))) (now (line .entry))) (now (words .entry)) (now (out .entry)) at end (now (out .exit)) (now (words .exit))
+        × Beside (now (words .exit)) (now (rows .exit)) (now (next .exit)) (now (told .exit)) (now (kept .exit)) ⌝ }
 {
-    let said = trace_lines::read(line);
+    let said = trace_lines::read(line, words[PART]);
     match said {
-        Line::Device { choice, levels } => make(words, told, kept, choice, levels, out, at),
+        Line::Device {
+            part,
+            choice,
+            levels,
+        } => make(words, rows, next, told, kept, part, choice, levels, out, at),
         Line::Event { kind, arg } => event(words, rows, next, told, kept, kind, arg, out, at),
         Line::Unreadable => refuse(out, at),
     }

@@ -10,6 +10,7 @@ ghost use Rattle.words_rows.specs.Rows.{Rowed};
 ghost use Rattle.words_bus.specs.Packed.{stateIn, answerAt, Packed, Leaves};
 ghost use Rattle.words_burst.specs.Burst.{wordAt, sent, eventAt, sentOf, one, ran, eight, Left, Bursts};
 use device_rules::Answer;
+use map::PINS24;
 use words_bus::WRONG_ARGUMENT;
 use words_bus::WRONG_KIND;
 
@@ -54,7 +55,7 @@ fn one(
     ensures { λ a. ⌜ Leaves 0 (now (words .exit)) (answerAt a) (one part24 (stateIn part24 (now (words .entry))) (sent kind arg third)) ⌝ }
 {
     if third == 0 {
-        return words_device::event_by(words, rows, next, kind, arg as u64);
+        return words_device::event_by(words, rows, next, PINS24, kind, arg as u64);
     }
     if LAST_KIND < kind {
         return WRONG_KIND;

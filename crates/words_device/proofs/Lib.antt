@@ -1,2 +1,3 @@
 pub mod Answering
+pub mod Naming
 pub mod Powering

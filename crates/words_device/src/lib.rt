@@ -1,23 +1,23 @@
 // The device on words that are lent: made; stepped with every refusal, whatever they hold, and where they are known to be packed without the test of refusal 3.
 ghost use mathlib.Core.Path.{_≡_};
-ghost use Prim.Native.Nat.{_^_, _<_};
-ghost use Rattle.map.specs.Map.{part24, Stepping};
-ghost use Rattle.device_rules.specs.Refusals.{stepped};
+ghost use Prim.Native.Nat.{ℕ, _^_, _<_};
+ghost use lib.ListN.{getD};
+ghost use Rattle.map.specs.Map.{partOf, Stepping};
 ghost use Rattle.device_rules.specs.PowerOn.{powerOn};
-ghost use Rattle.words_rows.specs.Rows.{rowAt, Rowed};
-ghost use Rattle.words_bus.specs.Packed.{stateIn, answerAt, Packed, Leaves, Steps};
+ghost use Rattle.words_rows.specs.Rows.{rowAt, Rowed, Tabled};
+ghost use Rattle.words_bus.specs.Packed.{stateIn, answerAt, Packed, Steps};
+ghost use Rattle.words_device.specs.Named.{Named, Obeys};
 use device_rules::Answer;
-use map::PINS24;
-use map::PINS34;
 use pins::Sets;
+use words::PART;
 use words::POINTER;
 
 // A device at power-on.
-pub fn power_on(words: &mut [u64; 28], choice: u8, levels: u64)
-    requires { ⌜ (choice < 4) × (levels < 2 ^ 24) ⌝ }
-    ensures { λ r. ⌜ Packed 0 (now (words .exit)) × (stateIn part24 (now (words .exit)) ≡ powerOn part24 choice levels) ⌝ }
+pub fn power_on(words: &mut [u64; 28], part: u64, choice: u8, levels: u64)
+    requires { ⌜ (part < 2) × (choice < 4) × (levels < 2 ^ partOf part .width) ⌝ }
+    ensures { λ r. ⌜ Packed part (now (words .exit)) × (stateIn (partOf part) (now (words .exit)) ≡ powerOn (partOf part) choice levels) ⌝ }
 {
-    words_bus::put_defaults(words, PINS24, choice as u64, 0);
+    words_bus::put_defaults(words, map::pins_of(part), choice as u64, part);
     let quiet = Sets {
         level: levels,
         reference: levels,
@@ -29,15 +29,16 @@ pub fn power_on(words: &mut [u64; 28], choice: u8, levels: u64)
 
 // One event on words that are: nothing of refusal 3 is left to test.
 pub fn event(words: &mut [u64; 28], kind: u32, arg: u64) -> Answer
-    requires { ⌜ Packed 0 (now words) ⌝ }
-    ensures { λ a. ⌜ Leaves 0 (now (words .exit)) a (stepped part24 (stateIn part24 (now (words .entry))) kind arg) ⌝ }
+    requires { ⌜ Named (now words) ⌝ }
+    ensures { λ a. ⌜ Obeys (now (words .entry)) (now (words .exit)) kind arg a ⌝ }
 {
+    let part = words[PART];
     if words_bus::is_command(&*words, kind) {
-        let wanted = words_rows::row24((arg % 128) as u8);
+        let wanted = words_rows::row_of(part, (arg % 128) as u8);
         return words_bus::answer(words_bus::command(words, wanted, arg));
     }
-    let row = words_rows::row24((words[POINTER] % 128) as u8);
-    words_bus::answer(words_bus::event(words, PINS24, row, kind, arg))
+    let row = words_rows::row_of(part, (words[POINTER] % 128) as u8);
+    words_bus::answer(words_bus::event(words, map::pins_of(part), row, kind, arg))
 }
 
 // A number that fits a row.
@@ -49,58 +50,44 @@ fn wide(byte: u8) -> u32
 
 // The row of a register out of the part's two tables: its successor from the second.
 fn row_in(rows: &[u32; 128], next: &[u8; 128], number: usize) -> u32
-    requires { ⌜ (number < 128) × Rowed part24 (now rows) × Stepping part24 (now next) ⌝ }
-    ensures { λ r. ⌜ r ≡ rowAt part24 number ⌝ }
+    requires { ⌜ number < 128 ⌝ }
+    ensures { λ r. ⌜ ((part : ℕ) → Rowed (partOf part) (now (rows .entry)) → Stepping (partOf part) (now (next .entry)) → r ≡ rowAt (partOf part) number) ⌝ }
 {
     let successor = wide(next[number]);
     rows[number] | (successor << 15)
 }
 
-// The same with the part's tables lent, its answer as a number: what a loop calls.
+// The same with the part's tables and its pins lent, its answer as a number: what a loop calls.
 pub fn event_by(
     words: &mut [u64; 28],
     rows: &[u32; 128],
     next: &[u8; 128],
+    pins: u64,
     kind: u32,
     arg: u64,
 ) -> u32
-    requires { ⌜ Packed 0 (now words) × Rowed part24 (now rows) × Stepping part24 (now next) ⌝ }
-    ensures { λ a. ⌜ Leaves 0 (now (words .exit)) (answerAt a) (stepped part24 (stateIn part24 (now (words .entry))) kind arg) ⌝ }
+    requires { ⌜ Named (now words) × Tabled (getD (now words) 27 0) (now rows) (now next) pins ⌝ }
+    ensures { λ a. ⌜ Obeys (now (words .entry)) (now (words .exit)) kind arg (answerAt a) ⌝ }
 {
     if words_bus::is_command(&*words, kind) {
         let wanted = row_in(rows, next, (arg % 128) as usize);
         return words_bus::command(words, wanted, arg);
     }
     let row = row_in(rows, next, (words[POINTER] % 128) as usize);
-    words_bus::event(words, PINS24, row, kind, arg)
+    words_bus::event(words, pins, row, kind, arg)
 }
 
-// One event of the 24-pin part, whatever the words hold.
-pub fn step24(words: &mut [u64; 28], kind: u32, arg: u64) -> u32
-    ensures { λ a. ⌜ Steps 0 (now (words .entry)) (now (words .exit)) kind arg (answerAt a) ⌝ }
+// One event of the part, whatever the words hold.
+pub fn step(words: &mut [u64; 28], part: u64, kind: u32, arg: u64) -> u32
+    ensures { λ a. ⌜ Steps part (now (words .entry)) (now (words .exit)) kind arg (answerAt a) ⌝ }
 {
-    let row = words_fits::judged24(&*words);
+    let row = words_fits::judged(&*words, part);
     if row == 0 {
         return words_bus::WRONG_IMAGE;
     }
     if words_bus::is_command(&*words, kind) {
-        let wanted = words_rows::row24((arg % 128) as u8);
+        let wanted = words_rows::row_of(part, (arg % 128) as u8);
         return words_bus::command(words, wanted, arg);
     }
-    words_bus::event(words, PINS24, row, kind, arg)
-}
-
-// And of its sister.
-fn step34(words: &mut [u64; 28], kind: u32, arg: u64) -> u32
-    ensures { λ a. ⌜ Steps 1 (now (words .entry)) (now (words .exit)) kind arg (answerAt a) ⌝ }
-{
-    let row = words_fits::judged34(&*words);
-    if row == 0 {
-        return words_bus::WRONG_IMAGE;
-    }
-    if words_bus::is_command(&*words, kind) {
-        let wanted = words_rows::row34((arg % 128) as u8);
-        return words_bus::command(words, wanted, arg);
-    }
-    words_bus::event(words, PINS34, row, kind, arg)
+    words_bus::event(words, map::pins_of(part), row, kind, arg)
 }

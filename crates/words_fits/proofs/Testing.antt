@@ -72,18 +72,15 @@ dark-union w i zero f = f 0 (omega arith)
 dark-union w i (suc n) f =
     bit-or (unionTo w n) (getD w (suc n) 0) i ∙ ap₂ (λ (a b : Bool). a || b) (dark-union w i n (λ t h. f t (omega arith))) (f (suc n) (omega arith))
 
--- ---- the test
+-- ---- words that fit the part
 module _ (c : ℕ) (w : List ℕ) (pins kinds enables counts : ℕ) (lim : Limits c pins kinds enables counts) where
-  abbrev Spare : ℕ
+  abbrev pub Spare : ℕ
   Spare = bitOr (bitOr (bitOr (without (unionTo w 16) pins) (without (getD w 7 0) kinds)) (without (getD w 17 0) enables)) (without (getD w 18 0) counts)
-
-  abbrev Odd : ℕ
-  Odd = bitOr (bitOr (bitOr (bitOr (bitOr (getD w 21 0 / 2 ^ 7) (getD w 22 0 / 2 ^ 3)) (getD w 23 0 / 2 ^ 2)) (getD w 24 0)) (getD w 25 0)) (getD w 26 0)
 
   mask-bit : {m : ℕ} (wide i : ℕ) → m ≡ 2 ^ wide - 1 → bit m i ≡ ltb i wide
   mask-bit wide i e = ap (λ (x : ℕ). bit x i) e ∙ ones-bit wide i
 
-  fit-of-spare : length w ≡ 28 → Spare ≡ 0 → Fit (partOf c) w
+  pub fit-of-spare : length w ≡ 28 → Spare ≡ 0 → Fit (partOf c) w
   fit-of-spare full e = record { full = full; clear = clear }
     where
       a : (bitOr (bitOr (without (unionTo w 16) pins) (without (getD w 7 0) kinds)) (without (getD w 17 0) enables) ≡ 0) × (without (getD w 18 0) counts ≡ 0)
@@ -114,7 +111,7 @@ module _ (c : ℕ) (w : List ℕ) (pins kinds enables counts : ℕ) (lim : Limit
               (without-zero (unionTo w 16) pins (d .0) i (mask-bit (partOf c .width) i (lim .pins-are) ∙ ap (ltb i) (sym (pin-word (partOf c) (sound c) s l x)) ∙ q))
               s (omega arith)
 
-  spare-of-fit : Fit (partOf c) w → Spare ≡ 0
+  pub spare-of-fit : Fit (partOf c) w → Spare ≡ 0
   spare-of-fit fit = zero-or (zero-or (zero-or any (one 7 kinds (omega arith) (lim .kinds-are))) (one 17 enables (omega arith) (lim .enables-are))) (one 18 counts (omega arith) (lim .counts-are))
     where
       one : (s m : ℕ) → s < 19 → m ≡ 2 ^ wideOf (partOf c) s - 1 → without (getD w s 0) m ≡ 0
@@ -127,16 +124,25 @@ module _ (c : ℕ) (w : List ℕ) (pins kinds enables counts : ℕ) (lim : Limit
           let l : t < 19 = omega arith in
           fit .clear t i l (le-ltb i (wideOf (partOf c) t) (omega (arith, past, ltb-false (partOf c .width) (wideOf (partOf c) t) (sound c .most t l))))))
 
-  -- what the stale bits say: none exactly if what is kept of the interrupt is right
-  abbrev pub Stale : ℕ → Type 0
-  Stale s = Fit (partOf c) w
-      → (s ≡ 0 → interruptIn w ≡ workedOut (partOf c) (coreIn (partOf c) w)) × (interruptIn w ≡ workedOut (partOf c) (coreIn (partOf c) w) → s ≡ 0)
+-- ---- the test
+module _ (c : ℕ) (w : List ℕ) (spare stale : ℕ) where
+  -- what the spare bits say: none exactly if the words fit the part
+  abbrev pub Spares : Type 0
+  Spares = (spare ≡ 0 → Fit (partOf c) w) × (Fit (partOf c) w → spare ≡ 0)
 
-  pub tested : (stale : ℕ) → Stale stale → length w ≡ 28 → getD w 27 0 ≡ c → bitOr (bitOr Spare Odd) stale ≡ 0 → Bounded c w
-  tested stale says full part e =
-      let all = or-zero (bitOr Spare Odd) stale e in
-      let both = or-zero Spare Odd (all .0) in
-      let fit = fit-of-spare full (both .0) in
+  -- and the stale bits: none exactly if what is kept of the interrupt is right
+  abbrev pub Stale : Type 0
+  Stale = Fit (partOf c) w
+      → (stale ≡ 0 → interruptIn w ≡ workedOut (partOf c) (coreIn (partOf c) w)) × (interruptIn w ≡ workedOut (partOf c) (coreIn (partOf c) w) → stale ≡ 0)
+
+  abbrev Odd : ℕ
+  Odd = bitOr (bitOr (bitOr (bitOr (bitOr (getD w 21 0 / 2 ^ 7) (getD w 22 0 / 2 ^ 3)) (getD w 23 0 / 2 ^ 2)) (getD w 24 0)) (getD w 25 0)) (getD w 26 0)
+
+  pub tested : Spares → Stale → getD w 27 0 ≡ c → bitOr (bitOr spare Odd) stale ≡ 0 → Bounded c w
+  tested fits says part e =
+      let all = or-zero (bitOr spare Odd) stale e in
+      let both = or-zero spare Odd (all .0) in
+      let fit = fits .0 (both .0) in
       let e5 = or-zero (bitOr (bitOr (bitOr (bitOr (getD w 21 0 / 2 ^ 7) (getD w 22 0 / 2 ^ 3)) (getD w 23 0 / 2 ^ 2)) (getD w 24 0)) (getD w 25 0)) (getD w 26 0) (both .1) in
       let e4 = or-zero (bitOr (bitOr (bitOr (getD w 21 0 / 2 ^ 7) (getD w 22 0 / 2 ^ 3)) (getD w 23 0 / 2 ^ 2)) (getD w 24 0)) (getD w 25 0) (e5 .0) in
       let e3 = or-zero (bitOr (bitOr (getD w 21 0 / 2 ^ 7) (getD w 22 0 / 2 ^ 3)) (getD w 23 0 / 2 ^ 2)) (getD w 24 0) (e4 .0) in
@@ -152,15 +158,15 @@ module _ (c : ℕ) (w : List ℕ) (pins kinds enables counts : ℕ) (lim : Limit
         part-is = part;
       }
 
-  pub passes : (stale : ℕ) → Stale stale → Bounded c w → bitOr (bitOr Spare Odd) stale ≡ 0
-  passes stale says b =
+  pub passes : Spares → Stale → Bounded c w → bitOr (bitOr spare Odd) stale ≡ 0
+  passes fits says b =
       let h21 = b .pointer-small in
       let h22 = b .bus-small in
       let h23 = b .choice-small in
       let p : getD w 21 0 / 128 ≡ 0 = omega (arith, div-add-mod' (getD w 21 0) 128) in
       let q : getD w 22 0 / 8 ≡ 0 = omega (arith, div-add-mod' (getD w 22 0) 8) in
       let r : getD w 23 0 / 4 ≡ 0 = omega (arith, div-add-mod' (getD w 23 0) 4) in
-      zero-or (zero-or (spare-of-fit (b .fit))
+      zero-or (zero-or (fits .1 (b .fit))
       (zero-or (zero-or (zero-or (zero-or (zero-or p q) r) (b .none 24 refl)) (b .none 25 refl)) (b .none 26 refl)))
       (says (b .fit) .1 (b .right))
 

@@ -4,7 +4,6 @@ ghost use mathlib.Core.Bool.{true, false};
 ghost use Prim.Native.Nat.{ℕ, _/_, _^_};
 ghost use lib.Bits.{bitOr};
 ghost use lib.ListN.{getD};
-ghost use Rattle.bits.specs.Bits.{without};
 ghost use Rattle.map.specs.Map.{partOf};
 ghost use Rattle.registers.specs.Interrupt.{workedOut};
 ghost use Rattle.words.specs.Words.{coreIn, interruptIn, Fit};
@@ -38,9 +37,10 @@ fn union(words: &[u64; 28]) -> u64
 
 // What is set in the words of registers and pins, and does not exist.
 fn spare(words: &[u64; 28], pins: u64, kinds: u64, enables: u64, counts: u64) -> u64
-    ensures { λ s. ⌜ s ≡ bitOr (bitOr (bitOr (without (unionTo (now (words .entry)) 16) pins) (without (getD (now (words .entry)) 7 0) kinds))
-        (without (getD (now (words .entry)) 17 0) enables)) (without (getD (now (words .entry)) 18 0) counts) ⌝ }
+    ensures { λ s. ⌜ ((c : ℕ) → Limits c pins kinds enables counts
+        → (s ≡ 0 → Fit (partOf c) (now (words .entry))) × (Fit (partOf c) (now (words .entry)) → s ≡ 0)) ⌝ }
 {
+    let _count = words::counted(words);
     let any = union(words);
     let kind = words[PORT_KIND];
     let enable = words[DEBOUNCE_ENABLE];
@@ -71,50 +71,48 @@ fn stale(words: &[u64; 28]) -> u64
     (words[STATUS] ^ status) | (words[LINE] ^ line)
 }
 
-// Whether the words may stand, the pointer's register apart.
-fn bounded(words: &[u64; 28], pins: u64, kinds: u64, enables: u64, counts: u64, part: u64) -> bool
-    ensures { λ r. ⌜ ((c : ℕ) → Limits c pins kinds enables counts → part ≡ c
-        → (r ≡ true → Bounded c (now (words .entry))) × (Bounded c (now (words .entry)) → r ≡ true)) ⌝ }
+// Whether the words may stand as those of the part, whose spare bits are given, the pointer's register apart.
+fn bounded(words: &[u64; 28], part: u64, spare: u64) -> bool
+    requires { ⌜ (spare ≡ 0 → Fit (partOf part) (now words)) × (Fit (partOf part) (now words) → spare ≡ 0) ⌝ }
+    ensures { λ r. ⌜ (r ≡ true → Bounded part (now (words .entry))) × (Bounded part (now (words .entry)) → r ≡ true) ⌝ }
 {
-    let _count = words::counted(words);
     if words[PART] != part {
         return false;
     }
-    spare(words, pins, kinds, enables, counts) | odd(words) | stale(words) == 0
+    spare | odd(words) | stale(words) == 0
 }
 
 // The row of the register at the pointer, if the words are the packing of a well-formed image of the 24-pin part; else 0.
-pub fn judged24(words: &[u64; 28]) -> u32
+fn judged24(words: &[u64; 28]) -> u32
     ensures { λ r. ⌜ Judged 0 (now (words .entry)) r ⌝ }
 {
-    if !bounded(
-        words,
-        PINS24,
-        PORT_KINDS24,
-        DEBOUNCED24,
-        DEBOUNCE_COUNT24,
-        0,
-    ) {
+    let spare = spare(words, PINS24, PORT_KINDS24, DEBOUNCED24, DEBOUNCE_COUNT24);
+    if !bounded(words, 0, spare) {
         return 0;
     }
     words_rows::row24((words[POINTER] % 128) as u8)
 }
 
-// And of its sister.
-pub fn judged34(words: &[u64; 28]) -> u32
+// And of its sister. One function with the limits as arguments is a call with seven of them in every step.
+fn judged34(words: &[u64; 28]) -> u32
     ensures { λ r. ⌜ Judged 1 (now (words .entry)) r ⌝ }
 {
-    if !bounded(
-        words,
-        PINS34,
-        PORT_KINDS34,
-        DEBOUNCED34,
-        DEBOUNCE_COUNT34,
-        1,
-    ) {
+    let spare = spare(words, PINS34, PORT_KINDS34, DEBOUNCED34, DEBOUNCE_COUNT34);
+    if !bounded(words, 1, spare) {
         return 0;
     }
     words_rows::row34((words[POINTER] % 128) as u8)
+}
+
+// The same of the part of that number: there is no third.
+pub fn judged(words: &[u64; 28], part: u64) -> u32
+    ensures { λ r. ⌜ Judged part (now (words .entry)) r ⌝ }
+{
+    match part {
+        0 => judged24(words),
+        1 => judged34(words),
+        _ => 0,
+    }
 }
 
 // Whether a row is a register's.

@@ -260,7 +260,3 @@ stored-known part n h st = ap₂ (λ (s t : Bool). not s || t) (lt-ltb n 128 h) 
     go Polarity e = refl
     go PinKind e = refl
     go Stored e = refl
-
-pub sister : (part : ℕ) → (part ≡ 0 → ⊥) → part34 ≡ partOf part
-sister zero z = absurd (z refl)
-sister (suc part) z = refl

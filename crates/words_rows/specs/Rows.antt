@@ -6,7 +6,7 @@ use Prim.Native.Nat.{ℕ, _+_, _-_, _*_, _/_, _^_, _<_}
 use lib.Bits.{bitAnd}
 use lib.Dec.{eqb}
 use lib.ListN.{getD}
-use Rattle.map.specs.Map.{Part, kindAt, code, reserved, next, roomAt, partOf}
+use Rattle.map.specs.Map.{Part, kindAt, code, reserved, next, Stepping, roomAt, partOf}
 use Rattle.words.specs.Words.{slotAt, digitAt, paired, strengthWord, Fit}
 
 -- what writing and reading it does: its kind's number; 14 for drive strength, which is stored like the others but in two words
@@ -31,6 +31,12 @@ bareAt p n = cond (reserved p n) 0 (ruleAt p n + slotAt p n * 2 ^ 4 + shiftAt p 
 -- a table of all these of a part
 abbrev pub Rowed : Part → (rows : List ℕ) → Type 0
 Rowed p rows = (n : ℕ) → n < 128 → getD rows n 0 ≡ bareAt p n
+
+-- what a loop is lent of part c: its rows, its successors, its pins
+pub record Tabled (c : ℕ) (rows next : List ℕ) (pins : ℕ) : Type 0 where
+  pub rowed : Rowed (partOf c) rows
+  pub stepping : Stepping (partOf c) next
+  pub pins-are : pins ≡ 2 ^ partOf c .width - 1
 
 -- the word that a row names, of whatever number it is
 abbrev pub wordIn : ℕ → ℕ

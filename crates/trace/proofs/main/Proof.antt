@@ -4,27 +4,25 @@ use mathlib.Core.Path.{_≡_}
 use Prim.Native.Nat.{ℕ, _≤_}
 use native.Mathlib.Omega.{arith}
 use lib.ListN.{length, length-replicate}
-use Rattle.map.specs.Map.{part24, Stepping}
-use Rattle.words_rows.specs.Rows.{Rowed}
 use Rattle.trace_session.specs.Tracing.{Kept, Beside}
 use Rattle.trace.proofs.main.Statement.{statement}
 use Rattle.trace.proofs.main.Tie as tie
 
 abbrev Inv-loop : tie.InvT-loop
-Inv-loop piece₀ out₀ rows next words₀ told₀ kept₀ held₀ len₀ turns₀ piece out words told kept held len turns =
-    (length piece ≡ 16384) × (length out ≡ 425984) × (len ≤ 33) × (length held ≡ 33) × Kept words × Rowed part24 rows × Stepping part24 next × Beside words told kept
+Inv-loop piece₀ out₀ rows₀ next₀ words₀ told₀ kept₀ held₀ len₀ turns₀ piece out rows next words told kept held len turns =
+    (length piece ≡ 16384) × (length out ≡ 425984) × (len ≤ 33) × (length held ≡ 33) × Kept words × Beside words rows next told kept
 
 abbrev μ-loop : tie.MeasureT-loop
-μ-loop piece₀ out₀ rows next words₀ told₀ kept₀ held₀ len₀ turns₀ piece out words told kept held len turns = turns
+μ-loop piece₀ out₀ rows₀ next₀ words₀ told₀ kept₀ held₀ len₀ turns₀ piece out rows next words told kept held len turns = turns
 
 loop-holds : tie.Need-loop-holds Inv-loop μ-loop
-loop-holds c = (length-replicate {A = ℕ} 16384 0, length-replicate {A = ℕ} 425984 0, omega arith, length-replicate {A = ℕ} 33 0, c .before .start .ensures .1, search needs, search needs, c .before .start .ensures .2 _ _ (length-replicate {A = ℕ} 22 0))
+loop-holds c = (length-replicate {A = ℕ} 16384 0, length-replicate {A = ℕ} 425984 0, omega arith, length-replicate {A = ℕ} 33 0, c .before .start .ensures .1, c .before .start .ensures .2 _ _ _ _ (length-replicate {A = ℕ} 22 0))
 
 feed-requires : tie.Need-feed-requires Inv-loop μ-loop
 feed-requires c κs =
     let counted = c .before .before .before .before .before .before .before .before .before .before in
     let here = counted .before .before .before .before .before .before .loop .inv in
-    (search needs, search needs, search needs, omega (arith, counted .count .ensures, here .0, here .1), search needs, search needs, search needs)
+    (search needs, search needs, search needs, omega (arith, counted .count .ensures, here .0, here .1), search needs)
 
 pub main-spec : {M : Type 1} → statement M
 main-spec =
@@ -32,8 +30,6 @@ main-spec =
     (tie.spec
     Inv-loop
     μ-loop
-    (λ c κs. search needs)
-    (λ c κs. search needs)
     (λ c κs. search needs)
     (λ c κs. search needs)
     loop-holds

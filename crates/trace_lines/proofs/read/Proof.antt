@@ -2,18 +2,19 @@
 use borrow.Author.Needs.{needs}
 use mathlib.Core.Path.{sym, _∙_}
 use native.Mathlib.Omega.{arith}
+use Rattle.map.specs.Map.{partOf}
 use Rattle.trace_lines.proofs.Laws.{line-long, line-start, line-stop, line-reset, line-fields}
 use Rattle.trace_lines.proofs.read.Statement.{statement}
 use Rattle.trace_lines.proofs.read.Tie as tie
 
 returns : tie.Need-returns
-returns c = line-long (c .before .before .args .line .now) (omega (arith, c .if1 .taken))
+returns c = line-long (partOf (c .before .before .args .part)) (c .before .before .args .line .now) (omega (arith, c .if1 .taken))
 
 returns-2 : tie.Need-returns-2
 returns-2 c =
     let start = c .before in
     let short = start .before .before in
-    line-start (short .before .before .args .line .now) (omega (arith, short .if1 .left)) (sym (start .is .ensures) ∙ c .if2 .taken)
+    line-start (partOf (short .before .before .args .part)) (short .before .before .args .line .now) (omega (arith, short .if1 .left)) (sym (start .is .ensures) ∙ c .if2 .taken)
 
 returns-3 : tie.Need-returns-3
 returns-3 c =
@@ -21,7 +22,7 @@ returns-3 c =
     let no-start = stop .before .before in
     let start = no-start .before in
     let short = start .before .before in
-    line-stop (short .before .before .args .line .now) (omega (arith, short .if1 .left)) (sym (start .is .ensures) ∙ no-start .if2 .left)
+    line-stop (partOf (short .before .before .args .part)) (short .before .before .args .line .now) (omega (arith, short .if1 .left)) (sym (start .is .ensures) ∙ no-start .if2 .left)
     (sym (stop .is2 .ensures) ∙ c .if3 .taken)
 
 returns-4 : tie.Need-returns-4
@@ -32,7 +33,7 @@ returns-4 c =
     let no-start = stop .before .before in
     let start = no-start .before in
     let short = start .before .before in
-    line-reset (short .before .before .args .line .now) (omega (arith, short .if1 .left)) (sym (start .is .ensures) ∙ no-start .if2 .left)
+    line-reset (partOf (short .before .before .args .part)) (short .before .before .args .line .now) (omega (arith, short .if1 .left)) (sym (start .is .ensures) ∙ no-start .if2 .left)
     (sym (stop .is2 .ensures) ∙ no-stop .if3 .left) (sym (reset .is3 .ensures) ∙ c .if4 .taken)
 
 returns-5 : tie.Need-returns-5
@@ -45,7 +46,7 @@ returns-5 c =
     let start = no-start .before in
     let short = start .before .before in
     c .read-fields .ensures
-    ∙ line-fields (short .before .before .args .line .now) (omega (arith, short .if1 .left)) (sym (start .is .ensures) ∙ no-start .if2 .left)
+    ∙ line-fields (partOf (short .before .before .args .part)) (short .before .before .args .line .now) (omega (arith, short .if1 .left)) (sym (start .is .ensures) ∙ no-start .if2 .left)
     (sym (stop .is2 .ensures) ∙ no-stop .if3 .left) (sym (reset .is3 .ensures) ∙ no-reset .if4 .left)
 
 pub read-spec : {M : Type 1} → statement M

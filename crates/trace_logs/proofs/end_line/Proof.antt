@@ -12,7 +12,7 @@ returns : tie.Need-returns
 unfolding heldAtEnd
 returns c =
     let p = c .before .before in
-    let t = p .before .before .before .before .before in
+    let t = p .before .before .before .before .before .before .before in
     let s = t .before .before .before in
     (says-as (line-whole (s .args .words .now) (s .args .held .now) (s .args .len) (t .if1 .taken) (s .args .part .now)) (p .answer-line .ensures .0), s .pre .2, rw (eq-eqb (s .args .len) 0 (t .if1 .taken)) refl, p .answer-line .ensures .1)
 
@@ -20,7 +20,7 @@ returns-2 : tie.Need-returns-2
 unfolding heldAtEnd
 returns-2 c =
     let j = c .before .before in
-    let e = j .before .before .before .before .before .before in
+    let e = j .before .before .before .before .before .before .before .before in
     (j .joined-line .ensures .0, j .joined-line .ensures .1, rw (ne-eqb _ 0 (e .if1 .left)) (j .joined-line .ensures .2), j .joined-line .ensures .3)
 
 pub end-line-spec : {M : Type 1} → statement M

@@ -8,42 +8,42 @@ use Rattle.trace_logs.proofs.feed.Statement.{statement}
 use Rattle.trace_logs.proofs.feed.Tie as tie
 
 abbrev Inv-loop : tie.InvT-loop
-Inv-loop words₀ rows next told₀ kept₀ held₀ len piece out₀ at rest₀ count₀ end₀ words told kept held out rest count end = Onward words₀ held₀ len piece out₀ at out rest words held count end × Beside words told kept
+Inv-loop words₀ rows₀ next₀ told₀ kept₀ held₀ len piece out₀ at rest₀ count₀ end₀ words rows next told kept held out rest count end = Onward words₀ held₀ len piece out₀ at out rest words held count end × Beside words rows next told kept
 
 abbrev μ-loop : tie.MeasureT-loop
-μ-loop words₀ rows next told₀ kept₀ held₀ len piece out₀ at rest₀ count₀ end₀ words told kept held out rest count end = length rest
+μ-loop words₀ rows₀ next₀ told₀ kept₀ held₀ len piece out₀ at rest₀ count₀ end₀ words rows next told kept held out rest count end = length rest
 
 loop-holds : tie.Need-loop-holds Inv-loop μ-loop
 loop-holds c =
     let s = c .before .before in
-    (onward-start (s .args .words .now) (s .args .held .now) (s .args .len) (s .pre .1) (s .pre .2) (s .pre .0) (s .pre .3), s .pre .6)
+    (onward-start (s .args .words .now) (s .args .held .now) (s .args .len) (s .pre .1) (s .pre .2) (s .pre .0) (s .pre .3), s .pre .4)
 
 first-line-requires : tie.Need-first-line-requires Inv-loop μ-loop
 first-line-requires c κs =
-    let l = c .before .before .before .before .before .before in
+    let l = c .before .before .before .before .before .before .before .before in
     let here = l .loop .inv .0 in
     let s = l .before .before .before in
-    (here .kept, here .small, here .whole, omega (arith, here .room, c .before .before .before .before .before .loop-test .taken), s .pre .4, s .pre .5, l .loop .inv .1)
+    (here .kept, here .small, here .whole, omega (arith, here .room, c .before .before .before .before .before .before .before .loop-test .taken), l .loop .inv .1)
 
 sub-rest : tie.Need-sub-rest Inv-loop μ-loop
 sub-rest c =
     let f = c .before .before in
-    omega (arith, f .first-line .ensures .1, taken-some (f .before .before .before .before .before .before .before .loop .rest .now) (f .before .before .before .before .before .before .loop-test .taken))
+    omega (arith, f .first-line .ensures .1, taken-some (f .before .before .before .before .before .before .before .before .before .loop .rest .now) (f .before .before .before .before .before .before .before .before .loop-test .taken))
 
 part-rest-start : tie.Need-part-rest-start Inv-loop μ-loop
 part-rest-start c =
     let f = c .before .before in
-    omega (arith, f .first-line .ensures .1, taken-some (f .before .before .before .before .before .before .before .loop .rest .now) (f .before .before .before .before .before .before .loop-test .taken))
+    omega (arith, f .first-line .ensures .1, taken-some (f .before .before .before .before .before .before .before .before .before .loop .rest .now) (f .before .before .before .before .before .before .before .before .loop-test .taken))
 
 loop-less : tie.Need-loop-less Inv-loop μ-loop
 loop-less c =
     let f = c .before .before .before in
-    taken-less _ _ (f .before .before .before .before .before .before .loop-test .taken) (f .first-line .ensures .1)
+    taken-less _ _ (f .before .before .before .before .before .before .before .before .loop-test .taken) (f .first-line .ensures .1)
 
 loop-again : tie.Need-loop-again Inv-loop μ-loop
 loop-again c =
     let f = c .before .before .before in
-    let i = f .before .before .before .before .before .before in
+    let i = f .before .before .before .before .before .before .before .before in
     (onward-line (i .before .loop .inv .0) (i .loop-test .taken) (f .first-line .ensures .0) (f .first-line .ensures .1) (f .first-line .ensures .2), f .first-line .ensures .3)
 
 returns : tie.Need-returns Inv-loop μ-loop

@@ -15,12 +15,12 @@ returns c =
     let g = c .grow .ensures in
     let all = f .unended (t .if1 .taken) in
     let gives = none-gives _ _ _ (f .ends) all (f .inside) _ _ (s .pre .0) (g .0 (s .args .words .now)) (g .2) (g .1) in
-    (gives .0, f .takes, rw (f .takes ∙ sym (gives .1)) (none-holds _ _ _ _ (f .ends) all (g .2) (g .1) (g .3)), s .pre .6)
+    (gives .0, f .takes, rw (f .takes ∙ sym (gives .1)) (none-holds _ _ _ _ (f .ends) all (g .2) (g .1) (g .3)), s .pre .4)
 
 returns-2 : tie.Need-returns-2
 returns-2 c =
     let p = c .before .before in
-    let e = p .before .before .before .before .before .before .before in
+    let e = p .before .before .before .before .before .before .before .before .before in
     let f = e .before .first-line .ensures in
     let some = f .ended (search needs) in
     let gives = line-gives _ _ _ (f .ends) some (p .end-line .ensures .0) (p .end-line .ensures .1) in

@@ -8,13 +8,13 @@ use Rattle.trace_logs.proofs.joined_line.Tie as tie
 
 part-answer-line-end : tie.Need-part-answer-line-end
 part-answer-line-end c =
-    let g = c .before .before .before .before .before .grow .ensures in
+    let g = c .before .before .before .before .before .before .before .grow .ensures in
     omega (arith, g .1, g .2)
 
 returns : tie.Need-returns
 returns c =
     let p = c .before .before in
-    let bytes = p .before .before .before .before .before in
+    let bytes = p .before .before .before .before .before .before .before in
     let g = bytes .before .before .before in
     let x = g .before .before .before .before .args in
     (says-as (line-joined (x .words .now) (x .held .now) (x .len) (g .grow .result) _ (x .part .now) (g .grow .ensures .0 (x .words .now))) (p .answer-line .ensures .0), g .grow .ensures .1, g .grow .ensures .3, p .answer-line .ensures .1)

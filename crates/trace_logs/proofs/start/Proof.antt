@@ -8,7 +8,7 @@ use Rattle.trace_logs.proofs.start.Statement.{statement}
 use Rattle.trace_logs.proofs.start.Tie as tie
 
 returns : tie.Need-returns
-returns c = (λ held. refl, λ h. clash false h refl, λ told kept. beside-start _ told kept refl)
+returns c = (λ held. refl, λ h. clash false h refl, λ rows next told kept. beside-start _ rows next told kept refl)
 
 pub start-spec : {M : Type 1} → statement M
 start-spec = tie.close (tie.spec (λ c. search needs) returns)

@@ -1,9 +1,9 @@
 -- `words_device::event_by`: a command or another event of the bus, its row out of the lent tables. Assumes nothing.
 use borrow.Author.Needs.{needs}
-use mathlib.Core.Path.{refl, sym, ap}
+use mathlib.Core.Path.{sym, ap}
 use Prim.Native.Nat.{ℕ}
-use native.Mathlib.Omega.{arith}
-use Rattle.map.specs.Map.{part24}
+use lib.ListN.{getD}
+use Rattle.map.specs.Map.{partOf}
 use Rattle.device_rules.specs.Refusals.{stepped}
 use Rattle.words_bus.specs.Packed.{stateIn}
 use Rattle.words_bus.proofs.Left.{by-rule}
@@ -16,16 +16,21 @@ command-requires : tie.Need-command-requires
 command-requires c κs =
     let which = c .before .before .before in
     let s = which .before .before in
-    (stands 0 (s .args .words .now) (s .pre .0) _ _ (c .before .row-in .ensures), which .is-command .ensures .0 (c .before .before .if1 .taken) .1)
+    let w = s .args .words .now in
+    let t = s .pre .1 in
+    (stands _ w (s .pre .0) _ _ (c .before .row-in .ensures (getD w 27 0) (t .rowed) (t .stepping)), which .is-command .ensures .0 (c .before .before .if1 .taken) .1)
 
 returns : tie.Need-returns
 returns c =
     let r = c .before .before in
     let which = r .before .before in
     let s = which .before .before in
+    let w = s .args .words .now in
+    let p = partOf (getD w 27 0) in
+    let t = s .pre .1 in
     let yes = which .is-command .ensures .0 (r .before .if1 .taken) in
-    by-rule (c .command .ensures 0 (s .pre .0) (yes .1) (r .row-in .ensures))
-    (ap (λ (n : ℕ). stepped part24 (stateIn part24 (s .args .words .now)) n (s .args .arg)) (sym (yes .0)))
+    by-rule (c .command .ensures _ (s .pre .0) (yes .1) (r .row-in .ensures (getD w 27 0) (t .rowed) (t .stepping)))
+    (ap (λ (n : ℕ). stepped p (stateIn p w) n (s .args .arg)) (sym (yes .0)))
 
 event-requires : tie.Need-event-requires
 event-requires c κs =
@@ -33,9 +38,11 @@ event-requires c κs =
     let else = r .before .before in
     let which = else .before in
     let s = which .before .before in
-    let w = s .args .words .now in (
-      stands 0 w (s .pre .0) _ _ (row-there 0 (omega arith) w (bounded-of 0 w (s .pre .0)) _ (r .row-in2 .ensures)),
-      its-pins 0 w (s .pre .0) _ refl,
+    let w = s .args .words .now in
+    let k = s .pre .0 in
+    let t = s .pre .1 in (
+      stands _ w k _ _ (row-there _ (k .known-part) w (bounded-of _ w k) _ (r .row-in2 .ensures (getD w 27 0) (t .rowed) (t .stepping))),
+      its-pins _ w k _ (t .pins-are),
       which .is-command .ensures .1 (else .if1 .left),
     )
 
@@ -46,7 +53,10 @@ returns-2 c =
     let which = else .before in
     let s = which .before .before in
     let w = s .args .words .now in
-    c .event .ensures 0 (s .pre .0) refl (row-there 0 (omega arith) w (bounded-of 0 w (s .pre .0)) _ (r .row-in2 .ensures)) (which .is-command .ensures .1 (else .if1 .left))
+    let k = s .pre .0 in
+    let t = s .pre .1 in
+    c .event .ensures _ k (t .pins-are) (row-there _ (k .known-part) w (bounded-of _ w k) _ (r .row-in2 .ensures (getD w 27 0) (t .rowed) (t .stepping)))
+    (which .is-command .ensures .1 (else .if1 .left))
 
 pub event-by-spec : {M : Type 1} → statement M
 event-by-spec =

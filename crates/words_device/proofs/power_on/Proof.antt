@@ -9,9 +9,10 @@ use Rattle.words_device.proofs.power_on.Tie as tie
 returns : tie.Need-returns
 returns c =
     let filled = c .before .before in
-    let s = filled .before .before in
-    let p = powered (s .args .choice) (s .args .levels) (s .pre .0) (s .pre .1) in
+    let pins = filled .before in
+    let s = pins .before .before in
+    let p = powered (s .args .part) (s .args .choice) (s .args .levels) (s .pre .0) (s .pre .1) (s .pre .2) _ (pins .pins-of .ensures) in
     rw (c .put-sets .ensures) (rw (filled .put-defaults .ensures) (p .packed, ap (λ (o : Outcome). o .after) (p .outcome)))
 
 pub power-on-spec : {M : Type 1} → statement M
-power-on-spec = tie.close (tie.spec (λ c κs. search needs) (λ c κs. search needs) returns)
+power-on-spec = tie.close (tie.spec (λ c κs. search needs) (λ c κs. search needs) (λ c κs. search needs) returns)

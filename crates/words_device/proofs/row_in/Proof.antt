@@ -12,7 +12,8 @@ returns c =
     let wide = c .before in
     let s = wide .before .before in
     let n = s .args .number in
-    ap₂ (λ (row next : ℕ). bitOr row (next * 2 ^ 15 % 2 ^ 32)) (s .pre .1 n (s .pre .0)) (wide .wide .ensures ∙ s .pre .2 n (s .pre .0)) ∙ whole-row 0 n (s .pre .0)
+    λ part rowed stepping.
+    ap₂ (λ (row next : ℕ). bitOr row (next * 2 ^ 15 % 2 ^ 32)) (rowed n (s .pre)) (wide .wide .ensures ∙ stepping n (s .pre)) ∙ whole-row part n (s .pre)
 
 pub row-in-spec : {M : Type 1} → statement M
 row-in-spec =

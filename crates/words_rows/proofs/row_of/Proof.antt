@@ -4,7 +4,7 @@ use mathlib.Core.Path.{sym, ap, _∙_}
 use Prim.Native.Nat.{ℕ}
 use Rattle.map.specs.Map.{Part, partOf}
 use Rattle.words_rows.specs.Rows.{rowAt}
-use Rattle.words_rows.proofs.Taken.{sister}
+use Rattle.map.proofs.Parts.{sister}
 use Rattle.words_rows.proofs.row_of.Statement.{statement}
 use Rattle.words_rows.proofs.row_of.Tie as tie
 

@@ -9,7 +9,7 @@ use Rattle.device.proofs.Device.reset_values.Statement.{statement}
 use Rattle.device.proofs.Device.reset_values.Tie as tie
 
 power-on-requires : tie.Need-power-on-requires
-power-on-requires c κs = (omega arith, pow-pos 24)
+power-on-requires c κs = (omega arith, omega arith, pow-pos 24)
 
 returns : tie.Need-returns
 unfolding powerOn
