@@ -2,20 +2,21 @@
 use mathlib.Core.Path.{_≡_, refl, sym, ap, _∙_}
 use mathlib.Core.Bool.{Bool, true, false, cond, not, _&&_, _||_}
 use mathlib.Core.List.{List, [], _∷_}
-use Prim.Native.Nat.{ℕ, zero, suc, _+_, _%_, _^_, _<_, _≤_}
-use native.Mathlib.Nat.{mod-lt, mod-le}
+use Prim.Native.Nat.{ℕ, zero, suc, _+_, _*_, _/_, _%_, _^_, _<_, _≤_}
+use native.Mathlib.Nat.{mod-lt, mod-le, div-add-mod'}
 use native.Mathlib.Omega.{arith}
-use borrow.Author.Tests.{lt-ltb, eqb-true, not-true}
-use lib.Dec.{eqb, ltb}
+use borrow.Author.Tests.{lt-ltb, ltb-true, leb-true, eqb-true, not-true}
+use lib.Dec.{eqb, ltb, leb}
 use lib.ListN.{length, getD, set, length-set}
 use lib.Pow.{pow-pos}
 use Rattle.bits.proofs.Decide.{clash, and-left, and-right, either-arm}
+use Rattle.bits.proofs.Laws.{bit-high}
 use Rattle.pins.specs.AllPins.{Within}
 use Rattle.pins.specs.declared.Sets.{Sets}
 use Rattle.pins.proofs.AllPins.{map-within}
-use Rattle.map.specs.Map.{Part, Kind, kindAt, reserved, next, stored, defaults, roomAt, whole, keptIn, fitting, fittingAt, fittingFrom, fileFits}
+use Rattle.map.specs.Map.{Part, Kind, firstOf, kindAt, reserved, next, stored, defaults, roomAt, whole, keptIn, fitting, fittingAt, fittingFrom, fileFits}
 use Rattle.map.specs.Map.Kind.{Reserved, Input, Status, InputStatus, Configuration, Latch, Mask, PortKind, Edge, Clear, Output, Polarity, PinKind, Stored}
-use Rattle.registers.specs.Registers.{core, keptAs, writtenAs, fetched, levelled, intAsserted}
+use Rattle.registers.specs.Registers.{Core, core, groupBit, keptAs, writtenAs, fetched, levelled, intAsserted}
 use Rattle.registers.specs.Interrupt.{workedOut}
 use Rattle.registers.proofs.Writing.{same as same-core}
 use Rattle.registers.proofs.Kept.{kept-written, kept-fetched, kept-levelled, kept-reset, line-right}
@@ -58,6 +59,22 @@ module _ (p : Part) (file : List ℕ) where
   pub fits-entry : fileFits p file ≡ true → (m : ℕ) → m < 128 → Fine m
   unfolding fileFits
   fits-entry e m h = ap (λ (k : ℕ). fittingAt p k (getD file k 0)) (omega arith) ∙ to-entry 128 0 m e h
+
+-- a place of the last port that is no pin has no bit in the configuration: it is no input
+pub no-input : (p : Part) → Lawful p → (r : Core) → fileFits p (r .file) ≡ true → (i : ℕ) → i < 8 * p .ports → ltb i (p .width) ≡ false
+    → groupBit p (r .file) Configuration i ≡ false
+no-input p ok r fits i h e =
+    let n = firstOf p Configuration + i / 8 in
+    let v = getD (r .file) n 0 in
+    let part = not (whole p) in
+    let past = leb (roomAt p n) (i % 8) in
+    let absent : (part && past) ≡ true = ap (λ (b : Bool). b || (part && past)) (sym e) ∙ ok .missing i h in
+    let listed = ltb-true n 128 (ok .listed (i / 8) (omega (arith, div-add-mod' i 8, h))) in
+    let fit = fitting p (kindAt p n) v in
+    let small = ltb v (2 ^ roomAt p n) in
+    let cut = not-true (whole p) (and-left part past absent) in
+    let entry : (fit && small) ≡ true = ap (λ (b : Bool). cond b fit (fit && small)) (sym cut) ∙ fits-entry p (r .file) fits n listed in
+    bit-high (roomAt p n) v (i % 8) (ltb-true v (2 ^ roomAt p n) (and-right fit small entry)) (leb-true (roomAt p n) (i % 8) (and-right part past absent))
 
 -- what is kept of a written byte may stand there, and so may its bits that exist
 module _ (p : Part) where

@@ -1,3 +1,4 @@
+pub mod Absent
 pub mod Causes
 pub mod Keeps
 pub mod Lawful

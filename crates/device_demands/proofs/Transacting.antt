@@ -1,24 +1,22 @@
 -- Any number of data bytes over the bus are register writes one after the other, any number of fetches show the registers one after the other: from any well-formed
 -- state of every lawful part, in any bus state. Assumes nothing.
 use mathlib.Core.Path.{_≡_, refl, sym, ap, ap₂, subst, _∙_}
-use mathlib.Core.Bool.{Bool, true, false, cond, not, _&&_, _||_}
+use mathlib.Core.Bool.{Bool, true, false, cond}
 use mathlib.Core.List.{List, [], _∷_}
-use Prim.Native.Nat.{ℕ, zero, suc, _+_, _-_, _*_, _/_, _%_, _^_, _<_}
-use native.Mathlib.Nat.{div-add-mod'}
+use Prim.Native.Nat.{ℕ, zero, suc, _+_, _-_, _*_, _<_}
 use native.Mathlib.Omega.{arith}
-use borrow.Author.Tests.{eq-eqb, ne-eqb, eqb-true, ltb-true, ltb-false, leb-true, not-true}
-use lib.Dec.{eqb, ltb, leb}
-use lib.ListN.{length, getD}
+use borrow.Author.Tests.{eq-eqb, ne-eqb, eqb-true, ltb-true, ltb-false}
+use lib.Dec.{eqb, ltb}
+use lib.ListN.{length}
 use Rattle.bits.specs.Bits.{bit, tabulate}
-use Rattle.bits.proofs.Decide.{and-left, and-right}
 use Rattle.bits.proofs.Laws.{bit-tabulate, bit-high, tabulate-lt, tabulate-ext}
 use Rattle.pins.specs.OnePin.{statusOf}
 use Rattle.pins.specs.Pin.{status}
 use Rattle.ports.specs.Ports.{byteOf}
-use Rattle.map.specs.Map.{Part, Kind, firstOf, kindAt, code, reserved, next, roomAt, whole, fitting, fileFits}
-use Rattle.map.specs.Map.Kind.{Status, Configuration}
+use Rattle.map.specs.Map.{Part, Kind, firstOf, kindAt, code, reserved, next, fileFits}
+use Rattle.map.specs.Map.Kind.{Status}
 use Rattle.map.proofs.ByNumber.{kind-is}
-use Rattle.registers.specs.Registers.{Core, groupBit, onePin, written, fetched, shownAs, shown}
+use Rattle.registers.specs.Registers.{Core, onePin, written, fetched, shownAs, shown}
 use Rattle.registers.specs.Interrupt.{Interrupt, workedOut, shownKept}
 use Rattle.registers.proofs.Kept.{kept-written, kept-fetched}
 use Rattle.device_rules.specs.Device.{State, Outcome, number, state, out, goes, addressByte, ringsAtWrite, ringsAtFetch, shownIn, byteIn, fetchIn, step}
@@ -30,8 +28,8 @@ use Rattle.device_rules.specs.declared.Answer.the-variants.{Nothing, Ack, Byte}
 use Rattle.device_rules.proofs.Images.{known-small, start-taken, stop-taken, byte-taken, fetch-taken}
 use Rattle.device_demands.specs.Run.{Asked, after, answers}
 use Rattle.device_demands.specs.Transactions.{rightly, START, STOP, sent, toWrite, toRead, fetch as fetched-byte, sentAll, writeAllOver, Bytes, writtenFrom, numberAfter, acks, fetchedAll, readAllOn, readAllOver, shownFrom, fetchedFrom}
-use Rattle.device_demands.proofs.Lawful.{Lawful}
-use Rattle.device_demands.proofs.Keeps.{fits-entry, WellFormed, image-of, to, point-keeps, fill-keeps, fetch-keeps}
+use Rattle.device_demands.proofs.Lawful.{Lawful, shown-place}
+use Rattle.device_demands.proofs.Keeps.{no-input, WellFormed, image-of, to, point-keeps, fill-keeps, fetch-keeps}
 
 -- the rest of a run goes on from where its first event leads
 pub on : (p : Part) (s : State) (e : Asked) (es : List Asked) (o : Outcome) → stepped p s (e .kind) (e .arg) ≡ o → after p s (e ∷ es) ≡ after p (o .after) es
@@ -58,20 +56,6 @@ righted p s g n b = ap (λ (k : Interrupt). state (s .regs) k n b (s .choice)) (
 
 -- interrupt status, kept right, shows what the rules work out: a place of the last port that is no pin is no input, so that its bit is 0 in both
 module _ (p : Part) (ok : Lawful p) (r : Core) (fits : fileFits p (r .file) ≡ true) where
-  no-input : (i : ℕ) → i < 8 * p .ports → ltb i (p .width) ≡ false → groupBit p (r .file) Configuration i ≡ false
-  no-input i h e =
-      let n = firstOf p Configuration + i / 8 in
-      let v = getD (r .file) n 0 in
-      let part = not (whole p) in
-      let past = leb (roomAt p n) (i % 8) in
-      let absent : (part && past) ≡ true = ap (λ (b : Bool). b || (part && past)) (sym e) ∙ ok .missing i h in
-      let listed = ltb-true n 128 (ok .listed (i / 8) (omega (arith, div-add-mod' i 8, h))) in
-      let fit = fitting p (kindAt p n) v in
-      let small = ltb v (2 ^ roomAt p n) in
-      let cut = not-true (whole p) (and-left part past absent) in
-      let entry : (fit && small) ≡ true = ap (λ (b : Bool). cond b fit (fit && small)) (sym cut) ∙ fits-entry p (r .file) fits n listed in
-      bit-high (roomAt p n) v (i % 8) (ltb-true v (2 ^ roomAt p n) (and-right fit small entry)) (leb-true (roomAt p n) (i % 8) (and-right part past absent))
-
   status-bit : (i : ℕ) → i < 8 * p .ports → bit (tabulate (p .width) (λ i. statusOf (onePin p r i))) i ≡ statusOf (onePin p r i)
   unfolding status
   status-bit i h = go (ltb i (p .width)) refl
@@ -80,9 +64,9 @@ module _ (p : Part) (ok : Lawful p) (r : Core) (fits : fileFits p (r .file) ≡ 
       go true e = bit-tabulate (p .width) (λ i. statusOf (onePin p r i)) i (ltb-true i (p .width) e)
       go false e =
           bit-high (p .width) (tabulate (p .width) (λ i. statusOf (onePin p r i))) i (tabulate-lt (p .width) _) (ltb-false i (p .width) e)
-          ∙ sym (simp (no-input i h e))
+          ∙ sym (simp (no-input p ok r fits i h e))
 
-  shown-right : (n : ℕ) → n < 128 → shownKept p (kindAt p n) r (workedOut p r) n ≡ shown p r n
+  pub shown-right : (n : ℕ) → n < 128 → shownKept p (kindAt p n) r (workedOut p r) n ≡ shown p r n
   unfolding shownKept workedOut shownAs
   shown-right n hn = go (eqb (code (kindAt p n)) (code Status)) refl
     where
@@ -92,14 +76,12 @@ module _ (p : Part) (ok : Lawful p) (r : Core) (fits : fileFits p (r .file) ≡ 
       its-status : kindAt p n ≡ Status → byteOf k (λ i. statusOf (onePin p r i)) ≡ shown p r n
       its-status e = ap (λ (k : Kind). shownAs p k r n) (sym e)
 
-      place : eqb (code (kindAt p n)) (code Status) ≡ true → k < p .ports
-      place e = ltb-true k (p .ports) (ap (λ (b : Bool). not b || ltb k (p .ports)) (sym e) ∙ ok .places n hn)
-
       go : (t : Bool) → eqb (code (kindAt p n)) (code Status) ≡ t
           → cond t (byteOf k (bit (tabulate (p .width) (λ i. statusOf (onePin p r i))))) (shown p r n) ≡ shown p r n
       go true e =
-          let h = place e in
-          tabulate-ext 8 (λ j l. status-bit (8 * k + j) (omega arith)) ∙ its-status (kind-is (kindAt p n) 2 (sym (eqb-true _ _ e)))
+          let is = kind-is (kindAt p n) 2 (sym (eqb-true _ _ e)) in
+          let h = shown-place p ok Status refl n hn is .0 in
+          tabulate-ext 8 (λ j l. status-bit (8 * k + j) (omega arith)) ∙ its-status is
       go false e = refl
 
 -- ---- each event of a transaction

@@ -1,3 +1,4 @@
+pub mod Absent
 pub mod Happens
 pub mod Run
 pub mod Transactions
