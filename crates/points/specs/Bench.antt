@@ -1,36 +1,42 @@
--- The bench points of device and planner, one table: what is done, what one looks at, and what must be seen.
+-- The bench points of both devices and the planner, one table: what is done, what one looks at, and what must be seen.
 use mathlib.Core.Bool.{Bool, true, false, _&&_}
 use mathlib.Core.List.{List, [], _∷_, _++_}
 use Prim.Native.Nat.{ℕ}
 use lib.Dec.{eqb}
-use lib.ListN.{getD, length}
+use lib.ListN.{getD, set, length}
 use Rattle.bits.specs.Bits.{val}
-use Rattle.map.specs.Map.{part24}
-use Rattle.registers.specs.Registers.{drivenLow, drivenHigh, intAsserted}
-use Rattle.device_rules.specs.Device.{Outcome, out}
+use Rattle.map.specs.Map.{Part, part24, part34}
+use Rattle.registers.specs.Registers.{core, drivenLow, drivenHigh, intAsserted}
+use Rattle.device_rules.specs.Device.{State, Outcome, state, out}
 use Rattle.device_rules.specs.Refusals.{stepped}
-use Rattle.device_rules.specs.Answers.{answerKind, answerByte}
+use Rattle.device_rules.specs.Answers.{answerKind, answerByte, refusalNumber}
 use Rattle.device_rules.specs.declared.Answer.the-variants.{Nothing}
-use Rattle.device_rules.specs.PowerOn.{powerOn}
+use Rattle.device_rules.specs.PowerOn.{powerOn, makingRefused}
 use Rattle.device_demands.specs.Run.{Asked}
 use Rattle.planner_quiet.specs.Settings.{Settings}
 use Rattle.planner_promise.specs.Answer.{Answer, answerOf}
 use Rattle.planner_promise.specs.Answer.Answer.{refuse, give}
-use Rattle.device_demands.specs.Transactions.{ask, START, STOP, sent, toWrite, writeOver, readOver, readOn}
+use Rattle.device_demands.specs.Transactions.{ask, START, STOP, sent, toWrite, writeAllOver, writeOver, readOver, readOn}
 
 pub data Case : Type 0 where
-  -- events from power-on at address choice 0 with all levels 0; one looks at the last outcome
-  case : List Asked → (Outcome → ℕ) → (seen : ℕ) → Case
+  -- events on a device of the part from power-on at address choice 0 with all levels 0; one looks at the last outcome
+  case : Part → List Asked → (Part → Outcome → ℕ) → (seen : ℕ) → Case
+  -- a device of the part is made with these levels; one looks at the refusal
+  made : Part → (levels : ℕ) → (refusal : ℕ) → Case
+  -- an image of the part at power-on, changed, is asked a START; one looks at the refusal
+  image : Part → (State → State) → (refusal : ℕ) → Case
   -- a start, a goal and a buffer of so many bytes; one looks at the planner's answer
   planned : (start goal : Settings) → (room : ℕ) → (Answer → ℕ) → (seen : ℕ) → Case
 
 -- the last outcome
-abbrev pub last : Outcome → List Asked → Outcome
-last o [] = o
-last o (e ∷ es) = last (stepped part24 (o .after) (e .kind) (e .arg)) es
+abbrev pub last : Part → Outcome → List Asked → Outcome
+last p o [] = o
+last p o (e ∷ es) = last p (stepped p (o .after) (e .kind) (e .arg)) es
 
 abbrev pub holds : Case → Bool
-holds (case events look seen) = eqb (look (last (out Nothing (powerOn part24 0 0)) events)) seen
+holds (case p events look seen) = eqb (look p (last p (out Nothing (powerOn p 0 0)) events)) seen
+holds (made p levels refusal) = eqb (makingRefused p 0 levels) refusal
+holds (image p change refusal) = eqb (refusalNumber (stepped p (change (powerOn p 0 0)) 0 0 .answer)) refusal
 holds (planned start goal room look seen) = eqb (look (answerOf start goal room)) seen
 
 abbrev pub all : List Case → Bool
@@ -45,34 +51,46 @@ abbrev pub levels : ℕ → Asked
 levels l = ask 4 l
 
 -- what one looks at
-abbrev pub answerIs : Outcome → ℕ
-answerIs o = answerKind (o .answer)
+abbrev pub answerIs : Part → Outcome → ℕ
+answerIs p o = answerKind (o .answer)
 
-abbrev pub byteIs : Outcome → ℕ
-byteIs o = answerByte (o .answer)
+abbrev pub byteIs : Part → Outcome → ℕ
+byteIs p o = answerByte (o .answer)
 
-abbrev pub pointerIs : Outcome → ℕ
-pointerIs o = o .after .pointer
+-- the number of the event's refusal, 0 where there is none
+abbrev pub refusedIs : Part → Outcome → ℕ
+refusedIs p o = refusalNumber (o .answer)
+
+abbrev pub pointerIs : Part → Outcome → ℕ
+pointerIs p o = o .after .pointer
 
 -- 1 if INT is asserted
-abbrev pub intIs : Outcome → ℕ
-intIs o = val (intAsserted part24 (o .after .regs))
+abbrev pub intIs : Part → Outcome → ℕ
+intIs p o = val (intAsserted p (o .after .regs))
 
 -- what is kept of the interrupt: the status set, and the line, 0 asserted
-abbrev pub keptStatusIs : Outcome → ℕ
-keptStatusIs o = o .after .interrupt .status
+abbrev pub keptStatusIs : Part → Outcome → ℕ
+keptStatusIs p o = o .after .interrupt .status
 
-abbrev pub keptLineIs : Outcome → ℕ
-keptLineIs o = o .after .interrupt .line
+abbrev pub keptLineIs : Part → Outcome → ℕ
+keptLineIs p o = o .after .interrupt .line
 
-abbrev pub highIs : Outcome → ℕ
-highIs o = drivenHigh part24 (o .after .regs)
+abbrev pub highIs : Part → Outcome → ℕ
+highIs p o = drivenHigh p (o .after .regs)
 
-abbrev pub lowIs : Outcome → ℕ
-lowIs o = drivenLow part24 (o .after .regs)
+abbrev pub lowIs : Part → Outcome → ℕ
+lowIs p o = drivenLow p (o .after .regs)
 
-abbrev pub registerIs : ℕ → Outcome → ℕ
-registerIs n o = getD (o .after .regs .file) n 0
+abbrev pub registerIs : ℕ → Part → Outcome → ℕ
+registerIs n p o = getD (o .after .regs .file) n 0
+
+-- an image whose register n holds v, and one whose levels are l
+abbrev pub holding : (n v : ℕ) → State → State
+holding n v s = state (core (set (s .regs .file) n v) (s .regs .sets)) (s .interrupt) (s .pointer) (s .bus) (s .choice)
+
+abbrev pub levelled : (l : ℕ) → State → State
+levelled l s =
+    state (core (s .regs .file) (record { level = l; reference = l; held = 0; edge = 0 })) (s .interrupt) (s .pointer) (s .bus) (s .choice)
 
 -- the number of the planner's refusal, 0 where a plan is given; and the number of its writes
 abbrev pub refusalIs : Answer → ℕ
@@ -97,6 +115,10 @@ alike output configuration portKinds pinKind =
 abbrev pub steppedFrom : ℕ → List Asked
 steppedFrom n = START ∷ toWrite 0 ∷ sent n ∷ sent 0x00 ∷ []
 
+-- 00 written to the five registers of a group of the sister
+abbrev pub zeros : (n : ℕ) → List Asked
+zeros n = writeAllOver 0 n (0x00 ∷ 0x00 ∷ 0x00 ∷ 0x00 ∷ 0x00 ∷ [])
+
 -- pin 0 an unmasked output
 abbrev pub turned : List Asked
 turned = write 0x0c 0xfe ++ write 0x54 0xfe
@@ -104,46 +126,97 @@ turned = write 0x0c 0xfe ++ write 0x54 0xfe
 abbrev pub cases : List Case
 cases =
     -- configuration 0, output 1, port kind 0, pin kind 1: released; port kind 1 too: high
-    case (write 0x0c 0xfe ++ write 0x70 0x01) highIs 0x00_0000
-    ∷ case (write 0x0c 0xfe ++ write 0x70 0x01) lowIs 0x00_0000
-    ∷ case (write 0x0c 0xfe ++ (write 0x70 0x01 ++ write 0x5c 0x01)) highIs 0x00_0001
+    case part24 (write 0x0c 0xfe ++ write 0x70 0x01) highIs 0x00_0000
+    ∷ case part24 (write 0x0c 0xfe ++ write 0x70 0x01) lowIs 0x00_0000
+    ∷ case part24 (write 0x0c 0xfe ++ (write 0x70 0x01 ++ write 0x5c 0x01)) highIs 0x00_0001
     -- the pointer after 02 is 00; after 45, 40; after 65, 60; after 75, 74; after 5C, 5C
-    ∷ case (steppedFrom 0x02) pointerIs 0x00
-    ∷ case (steppedFrom 0x45) pointerIs 0x40
-    ∷ case (steppedFrom 0x65) pointerIs 0x60
-    ∷ case (steppedFrom 0x75) pointerIs 0x74
-    ∷ case (steppedFrom 0x5c) pointerIs 0x5c
+    ∷ case part24 (steppedFrom 0x02) pointerIs 0x00
+    ∷ case part24 (steppedFrom 0x45) pointerIs 0x40
+    ∷ case part24 (steppedFrom 0x65) pointerIs 0x60
+    ∷ case part24 (steppedFrom 0x75) pointerIs 0x74
+    ∷ case part24 (steppedFrom 0x5c) pointerIs 0x5c
     -- latched pin 0, 1, 0: the first fetch shows 1, the next 0
-    ∷ case (write 0x48 0x01 ++ (levels 1 ∷ levels 0 ∷ readOver 0 0x00 false)) byteIs 0x01
-    ∷ case (write 0x48 0x01 ++ ((levels 1 ∷ levels 0 ∷ readOver 0 0x00 false) ++ readOn 0 false)) byteIs 0x00
+    ∷ case part24 (write 0x48 0x01 ++ (levels 1 ∷ levels 0 ∷ readOver 0 0x00 false)) byteIs 0x01
+    ∷ case part24 (write 0x48 0x01 ++ ((levels 1 ∷ levels 0 ∷ readOver 0 0x00 false) ++ readOn 0 false)) byteIs 0x00
     -- unlatched: INT is asserted at 1 and quiet again at 0
-    ∷ case (write 0x54 0xfe ++ (levels 1 ∷ [])) intIs 1
-    ∷ case (write 0x54 0xfe ++ (levels 1 ∷ levels 0 ∷ [])) intIs 0
+    ∷ case part24 (write 0x54 0xfe ++ (levels 1 ∷ [])) intIs 1
+    ∷ case part24 (write 0x54 0xfe ++ (levels 1 ∷ levels 0 ∷ [])) intIs 0
     -- rising field, latch 0, unmasked, 0, 1, 0: INT stays asserted; masked during it, unmasked after: quiet
-    ∷ case (write 0x54 0xfe ++ (write 0x60 0x01 ++ (levels 1 ∷ levels 0 ∷ []))) intIs 1
-    ∷ case (write 0x60 0x01 ++ (levels 1 ∷ levels 0 ∷ write 0x54 0xfe)) intIs 0
+    ∷ case part24 (write 0x54 0xfe ++ (write 0x60 0x01 ++ (levels 1 ∷ levels 0 ∷ []))) intIs 1
+    ∷ case part24 (write 0x60 0x01 ++ (levels 1 ∷ levels 0 ∷ write 0x54 0xfe)) intIs 0
     -- pin 0 an unmasked output whose level moved, then an input: latched INT is asserted, and still after the level returns; unlatched while the level differs
-    ∷ case (turned ++ (write 0x48 0x01 ++ (levels 1 ∷ write 0x0c 0xff))) intIs 1
-    ∷ case (turned ++ (write 0x48 0x01 ++ ((levels 1 ∷ write 0x0c 0xff) ++ (levels 0 ∷ [])))) intIs 1
-    ∷ case (turned ++ (levels 1 ∷ write 0x0c 0xff)) intIs 1
-    ∷ case (turned ++ ((levels 1 ∷ write 0x0c 0xff) ++ (levels 0 ∷ []))) intIs 0
+    ∷ case part24 (turned ++ (write 0x48 0x01 ++ (levels 1 ∷ write 0x0c 0xff))) intIs 1
+    ∷ case part24 (turned ++ (write 0x48 0x01 ++ ((levels 1 ∷ write 0x0c 0xff) ++ (levels 0 ∷ [])))) intIs 1
+    ∷ case part24 (turned ++ (levels 1 ∷ write 0x0c 0xff)) intIs 1
+    ∷ case part24 (turned ++ ((levels 1 ∷ write 0x0c 0xff) ++ (levels 0 ∷ []))) intIs 0
     -- the level back before the turn, or fetched while output: quiet; with an edge field: quiet
-    ∷ case (turned ++ (write 0x48 0x01 ++ (levels 1 ∷ levels 0 ∷ write 0x0c 0xff))) intIs 0
-    ∷ case (turned ++ (write 0x48 0x01 ++ ((levels 1 ∷ readOver 0 0x00 false) ++ write 0x0c 0xff))) intIs 0
-    ∷ case (turned ++ (write 0x60 0x03 ++ (levels 1 ∷ write 0x0c 0xff))) intIs 0
+    ∷ case part24 (turned ++ (write 0x48 0x01 ++ (levels 1 ∷ levels 0 ∷ write 0x0c 0xff))) intIs 0
+    ∷ case part24 (turned ++ (write 0x48 0x01 ++ ((levels 1 ∷ readOver 0 0x00 false) ++ write 0x0c 0xff))) intIs 0
+    ∷ case part24 (turned ++ (write 0x60 0x03 ++ (levels 1 ∷ write 0x0c 0xff))) intIs 0
     -- what is kept of the interrupt: quiet at power-on, asserted as the pin leaves its reference, quiet once it is fetched, masked or reset
-    ∷ case [] keptLineIs 1
-    ∷ case (write 0x54 0xfe ++ (levels 1 ∷ [])) keptStatusIs 0x00_0001
-    ∷ case (write 0x54 0xfe ++ (levels 1 ∷ [])) keptLineIs 0
-    ∷ case (write 0x54 0xfe ++ (levels 1 ∷ readOver 0 0x58 false)) byteIs 0x01
-    ∷ case (write 0x54 0xfe ++ (levels 1 ∷ readOver 0 0x00 false)) keptLineIs 1
-    ∷ case (write 0x54 0xfe ++ (levels 1 ∷ write 0x54 0xff)) keptStatusIs 0x00_0000
-    ∷ case (write 0x54 0xfe ++ (levels 1 ∷ ask 5 0 ∷ [])) keptLineIs 1
+    ∷ case part24 [] keptLineIs 1
+    ∷ case part24 (write 0x54 0xfe ++ (levels 1 ∷ [])) keptStatusIs 0x00_0001
+    ∷ case part24 (write 0x54 0xfe ++ (levels 1 ∷ [])) keptLineIs 0
+    ∷ case part24 (write 0x54 0xfe ++ (levels 1 ∷ readOver 0 0x58 false)) byteIs 0x01
+    ∷ case part24 (write 0x54 0xfe ++ (levels 1 ∷ readOver 0 0x00 false)) keptLineIs 1
+    ∷ case part24 (write 0x54 0xfe ++ (levels 1 ∷ write 0x54 0xff)) keptStatusIs 0x00_0000
+    ∷ case part24 (write 0x54 0xfe ++ (levels 1 ∷ ask 5 0 ∷ [])) keptLineIs 1
     -- 00h, 06h, START, STOP: no reset; 00h, 06h, STOP: reset
-    ∷ case (write 0x04 0x00 ++ (START ∷ sent 0x00 ∷ sent 0x06 ∷ START ∷ STOP ∷ [])) (registerIs 0x04) 0x00
-    ∷ case (write 0x04 0x00 ++ (START ∷ sent 0x00 ∷ sent 0x06 ∷ STOP ∷ [])) (registerIs 0x04) 0xff
+    ∷ case part24 (write 0x04 0x00 ++ (START ∷ sent 0x00 ∷ sent 0x06 ∷ START ∷ STOP ∷ [])) (registerIs 0x04) 0x00
+    ∷ case part24 (write 0x04 0x00 ++ (START ∷ sent 0x00 ∷ sent 0x06 ∷ STOP ∷ [])) (registerIs 0x04) 0xff
     -- command 03h: no acknowledge
-    ∷ case (START ∷ toWrite 0 ∷ sent 0x03 ∷ []) answerIs 2
+    ∷ case part24 (START ∷ toWrite 0 ∷ sent 0x03 ∷ []) answerIs 2
+    -- the sister: the pointer after 04 is 00; after 38, 30; after 5C, 54; after 62, 5E; after 6F, 6D, debounce being one group; after 53, 53
+    ∷ case part34 (steppedFrom 0x04) pointerIs 0x00
+    ∷ case part34 (steppedFrom 0x38) pointerIs 0x30
+    ∷ case part34 (steppedFrom 0x5c) pointerIs 0x54
+    ∷ case part34 (steppedFrom 0x62) pointerIs 0x5e
+    ∷ case part34 (steppedFrom 0x6e) pointerIs 0x6f
+    ∷ case part34 (steppedFrom 0x6f) pointerIs 0x6d
+    ∷ case part34 (steppedFrom 0x53) pointerIs 0x53
+    -- its reserved commands 14 and 5D: no acknowledge
+    ∷ case part34 (START ∷ toWrite 0 ∷ sent 0x14 ∷ []) answerIs 2
+    ∷ case part34 (START ∷ toWrite 0 ∷ sent 0x5d ∷ []) answerIs 2
+    -- after a reset 09, 13, 48 and 4D read 03, port 4 having two pins, and 38 reads 0F
+    ∷ case part34 (readOver 0 0x09 false) byteIs 0x03
+    ∷ case part34 (readOver 0 0x13 false) byteIs 0x03
+    ∷ case part34 (readOver 0 0x48 false) byteIs 0x03
+    ∷ case part34 (readOver 0 0x4d false) byteIs 0x03
+    ∷ case part34 (readOver 0 0x38 false) byteIs 0x0f
+    ∷ case part34 (readOver 0 0x08 false) byteIs 0xff
+    -- bits that do not exist are ignored on write and read 0
+    ∷ case part34 (write 0x13 0xff ++ readOver 0 0x13 false) byteIs 0x03
+    ∷ case part34 (write 0x0e 0xfe ++ readOver 0 0x0e false) byteIs 0x02
+    ∷ case part34 (write 0x38 0xf5 ++ readOver 0 0x38 false) byteIs 0x05
+    ∷ case part34 (write 0x5c 0xfa ++ readOver 0 0x5c false) byteIs 0x0a
+    ∷ case part34 (write 0x53 0xff ++ readOver 0 0x53 false) byteIs 0x1f
+    ∷ case part34 (write 0x6f 0xff ++ readOver 0 0x6f false) byteIs 0xff
+    -- every pin an output of 0, or of 1: 34 pins are driven and no more
+    ∷ case part34 (zeros 0x05 ++ zeros 0x0f) lowIs 0x3_ffff_ffff
+    ∷ case part34 (zeros 0x0f) highIs 0x3_ffff_ffff
+    -- pin 33, the last: driven low, shown at its level, and asserting INT
+    ∷ case part34 (write 0x09 0x01 ++ write 0x13 0x01) lowIs 0x2_0000_0000
+    ∷ case part34 (levels 0x2_0000_0000 ∷ readOver 0 0x04 false) byteIs 0x02
+    ∷ case part34 (write 0x4d 0x01 ++ (levels 0x2_0000_0000 ∷ [])) keptStatusIs 0x2_0000_0000
+    ∷ case part34 (write 0x4d 0x01 ++ (levels 0x2_0000_0000 ∷ readOver 0 0x52 false)) byteIs 0x02
+    ∷ case part34 (write 0x4d 0x01 ++ (levels 0x2_0000_0000 ∷ [])) intIs 1
+    ∷ case part34 (write 0x4d 0x01 ++ (levels 0x2_0000_0000 ∷ write 0x62 0xfe)) intIs 0
+    -- levels of its 34 pins pass, those of a 35th are refused with 2, as an event and as a device is made
+    ∷ case part34 (levels 0x3_ffff_ffff ∷ []) refusedIs 0
+    ∷ case part34 (levels 0x4_0000_0000 ∷ []) refusedIs 2
+    ∷ case part24 (levels 0xff_ffff ∷ []) refusedIs 0
+    ∷ case part24 (levels 0x100_0000 ∷ []) refusedIs 2
+    ∷ made part34 0x3_ffff_ffff 0
+    ∷ made part34 0x4_0000_0000 2
+    ∷ made part24 0x100_0000 2
+    -- an image with a bit that does not exist, or a pin that does not, is broken
+    ∷ image part34 (holding 0x13 0x03) 0
+    ∷ image part34 (holding 0x13 0x07) 3
+    ∷ image part34 (holding 0x38 0x1f) 3
+    ∷ image part34 (holding 0x53 0x1f) 0
+    ∷ image part34 (holding 0x53 0x20) 3
+    ∷ image part34 (levelled 0x3_ffff_ffff) 0
+    ∷ image part34 (levelled 0x4_0000_0000) 3
     -- pin 0 high at both ends, its port bit in 5C and its own bit in 70 both from 0 to 1: refusal 4
     ∷ planned (port0 0xff 0xfe 0x00 0x00) (port0 0xff 0xfe 0x01 0x01) 32 refusalIs 4
     -- the same with output 0, every other pin an input at both ends: a plan
