@@ -1,31 +1,51 @@
--- An image asked through the words that it was packed into. Assumes nothing.
-use mathlib.Core.Path.{_≡_, sym, ap, _∙_}
-use mathlib.Core.Bool.{Bool, true, false, cond, not, _||_}
+-- A device asked and stepped through the words that it was packed into; one that does not pack is a broken image. Assumes nothing.
+use mathlib.Core.Path.{_≡_, refl, sym, ap, _∙_}
+use mathlib.Core.Bool.{Bool, true, false, cond, not, _&&_, _||_}
 use mathlib.Core.List.{List}
 use Prim.Native.Nat.{ℕ, _<_}
 use borrow.Author.Tests.{le-ltb}
-use lib.Dec.{eqb}
-use Rattle.map.specs.Map.{part24, kindAt, code, reserved}
+use lib.Dec.{eqb, ltb}
+use Rattle.bits.proofs.Decide.{and-left}
+use Rattle.map.specs.Map.{Part, kindAt, code, reserved, partOf}
 use Rattle.map.specs.Map.Kind.{Reserved}
-use Rattle.device_rules.specs.Device.{State}
-use Rattle.device_rules.specs.Refusals.{imageFits}
+use Rattle.device_rules.specs.Device.{State, out}
+use Rattle.device_rules.specs.Refusals.{imageFits, stepped}
+use Rattle.device_rules.specs.declared.Answer.the-variants.{Refused}
+use Rattle.device_rules.proofs.Images.{broken}
 use Rattle.words_bus.specs.Packed.{stateIn}
 use Rattle.words_images.specs.Images.{Packs}
+use Rattle.device.specs.Held.{fitsIn, steppedIn}
+use Rattle.device.specs.Held as held
+use Rattle.device.specs.declared.Device.{Device}
 
-module _ {s : State} {fits : Bool} {v w : List ℕ} (p : Packs 0 s fits v w) where
-  pub no-image : fits ≡ false → imageFits part24 s ≡ false
+module _ {d : Device} {fits : Bool} {v w : List ℕ} (p : Packs (d .part) (held.stateIn d) fits v w) where
+  pub no-image : fits ≡ false → fitsIn d ≡ false
   no-image e = sym (p .judged) ∙ e
 
-  pub its-image : fits ≡ true → imageFits part24 s ≡ true
+  pub its-image : fits ≡ true → fitsIn d ≡ true
   its-image e = sym (p .judged) ∙ e
 
-  pub refused : {A : Type 0} (some none : A) → fits ≡ false → none ≡ cond (imageFits part24 s) some none
+  pub refused : {A : Type 0} (some none : A) → fits ≡ false → none ≡ cond (fitsIn d) some none
   refused some none e = ap (λ (t : Bool). cond t some none) (sym (no-image e))
 
-  pub asked : {A : Type 0} (f : State → A) (none : A) → fits ≡ true → f (stateIn part24 w) ≡ cond (imageFits part24 s) (f s) none
-  asked f none e = ap f (p .packed e .1) ∙ ap (λ (t : Bool). cond t (f s) none) (sym (its-image e))
+  pub asked : {A : Type 0} (f : State → A) (none : A) → fits ≡ true → f (stateIn (partOf (d .part)) w) ≡ cond (fitsIn d) (f (held.stateIn d)) none
+  asked f none e = ap f (p .packed e .1) ∙ ap (λ (t : Bool). cond t (f (held.stateIn d)) none) (sym (its-image e))
 
 -- a number over 7Fh counts as reserved
-pub over : (n : ℕ) → 127 < n → reserved part24 n ≡ true
+pub over : (p : Part) (n : ℕ) → 127 < n → reserved p n ≡ true
 unfolding reserved
-over n h = ap (λ (t : Bool). not t || eqb (code (kindAt part24 n)) (code Reserved)) (le-ltb n 128 h)
+over p n h = ap (λ (t : Bool). not t || eqb (code (kindAt p n)) (code Reserved)) (le-ltb n 128 h)
+
+-- ---- steps
+-- a broken image, or a part that is none of the two, is refused with 3
+pub not-stepped : (d : Device) (kind arg : ℕ) → fitsIn d ≡ false → out (Refused 3) (held.stateIn d) ≡ steppedIn d kind arg
+not-stepped d kind arg e = go (ltb (d .part) 2) e
+  where
+    go : (known : Bool) → (known && imageFits (partOf (d .part)) (held.stateIn d)) ≡ false
+        → out (Refused 3) (held.stateIn d) ≡ cond known (stepped (partOf (d .part)) (held.stateIn d) kind arg) (out (Refused 3) (held.stateIn d))
+    go true z = broken (partOf (d .part)) (held.stateIn d) kind arg z
+    go false z = refl
+
+-- any other is stepped by the rules of its part
+pub by-its-rules : (d : Device) (kind arg : ℕ) → fitsIn d ≡ true → stepped (partOf (d .part)) (held.stateIn d) kind arg ≡ steppedIn d kind arg
+by-its-rules d kind arg e = simp (and-left (ltb (d .part) 2) (imageFits (partOf (d .part)) (held.stateIn d)) e)

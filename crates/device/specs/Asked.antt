@@ -2,10 +2,11 @@
 -- Where it is refused the pins are none, INT counts as asserted, so that a refusal is never taken for quiet, and the byte is 0.
 use mathlib.Core.Bool.{Bool, true, cond}
 use Prim.Native.Nat.{ℕ}
-use Rattle.map.specs.Map.{Part, reserved}
+use Rattle.map.specs.Map.{partOf, reserved}
 use Rattle.registers.specs.Registers.{drivenLow, drivenHigh, intAsserted}
-use Rattle.device_rules.specs.Device.{State, shownIn}
-use Rattle.device_rules.specs.Refusals.{imageFits}
+use Rattle.device_rules.specs.Device.{shownIn}
+use Rattle.device.specs.Held.{stateIn, fitsIn}
+use Rattle.device.specs.declared.Device.{Device}
 use Rattle.device.specs.declared.Driven.{Driven}
 use Rattle.device.specs.declared.Line.{Line}
 use Rattle.device.specs.declared.Shown.{Shown}
@@ -20,16 +21,16 @@ abbrev pub byte : (refusal byte : ℕ) → Shown
 byte refusal b = record { refusal = refusal; byte = b }
 
 -- the pins driven low, and driven high
-abbrev pub lowOf : Part → State → Driven
-lowOf p s = cond (imageFits p s) (driven 0 (drivenLow p (s .regs))) (driven 3 0)
+abbrev pub lowOf : Device → Driven
+lowOf d = cond (fitsIn d) (driven 0 (drivenLow (partOf (d .part)) (stateIn d .regs))) (driven 3 0)
 
-abbrev pub highOf : Part → State → Driven
-highOf p s = cond (imageFits p s) (driven 0 (drivenHigh p (s .regs))) (driven 3 0)
+abbrev pub highOf : Device → Driven
+highOf d = cond (fitsIn d) (driven 0 (drivenHigh (partOf (d .part)) (stateIn d .regs))) (driven 3 0)
 
 -- whether INT is asserted
-abbrev pub lineOf : Part → State → Line
-lineOf p s = cond (imageFits p s) (line 0 (intAsserted p (s .regs))) (line 3 true)
+abbrev pub lineOf : Device → Line
+lineOf d = cond (fitsIn d) (line 0 (intAsserted (partOf (d .part)) (stateIn d .regs))) (line 3 true)
 
 -- the byte that a fetch of register n would show
-abbrev pub shownOf : Part → State → (n : ℕ) → Shown
-shownOf p s n = cond (imageFits p s) (cond (reserved p n) (byte 2 0) (byte 0 (shownIn p s n))) (byte 3 0)
+abbrev pub shownOf : Device → (n : ℕ) → Shown
+shownOf d n = cond (fitsIn d) (cond (reserved (partOf (d .part)) n) (byte 2 0) (byte 0 (shownIn (partOf (d .part)) (stateIn d) n))) (byte 3 0)

@@ -1,11 +1,10 @@
-// The device by value, as its callers have it: made, stepped and asked.
+// The device by value, of either part, as its callers have it: made, stepped and asked.
 ghost use mathlib.Core.Path.{_≡_};
-ghost use Rattle.map.specs.Map.{part24, defaults};
-ghost use Rattle.device_rules.specs.Device.{out};
-ghost use Rattle.device_rules.specs.Refusals.{stepped};
-ghost use Rattle.device_rules.specs.PowerOn.{makingRefused, MadeOf};
+ghost use Prim.Native.Nat.{_<_};
+ghost use Rattle.map.specs.Map.{part24, part34, partOf, defaults};
+ghost use Rattle.device_rules.specs.PowerOn.{makingRefused};
 ghost use Rattle.words_images.specs.Images.{Packs};
-ghost use Rattle.device.specs.Held.{stateIn};
+ghost use Rattle.device.specs.Held.{stateIn, Makes, Steps};
 ghost use Rattle.device.specs.Asked.{lowOf, highOf, lineOf, shownOf};
 use device_rules::Answer;
 use device_rules::BAD_ARGUMENT;
@@ -14,11 +13,16 @@ use device_rules::LAST_CHOICE;
 use device_rules::NONE;
 use device_rules::QUIET;
 use map::LAST_NUMBER;
-use map::PINS24;
 use pins::Sets;
 
-// The state of the device: one byte for each command number beside the pin sets, the pointer, the bus state, the address choice, the status set and the line.
+// The parts by their numbers: the one of 24 pins, and its sister of 34.
+pub const PART24: u8 = 0;
+
+pub const PART34: u8 = 1;
+
+// The device: its part's number, and its state: one byte for each command number beside the pin sets, the pointer, the bus state, the address choice, the status set and the line.
 pub struct Device {
+    pub part: u8,
     pub file: [u8; 128],
     pub sets: Sets,
     pub pointer: u8,
@@ -58,14 +62,14 @@ pub struct Shown {
     pub byte: u8,
 }
 
-// What refuses to make a device: its number, 0 for none.
-fn making_refusal(choice: u8, levels: u64) -> u8
-    ensures { λ n. ⌜ n ≡ makingRefused part24 choice levels ⌝ }
+// What refuses to make a device of the part: its number, 0 for none.
+fn making_refusal(part: u8, choice: u8, levels: u64) -> u8
+    ensures { λ n. ⌜ n ≡ makingRefused (partOf part) choice levels ⌝ }
 {
     if LAST_CHOICE < choice {
         return BAD_ARGUMENT;
     }
-    if PINS24 < levels {
+    if map::pins_of(part as u64) < levels {
         return BAD_ARGUMENT;
     }
     NONE
@@ -75,6 +79,9 @@ impl Device {
     // the most writes that a plan may have
     pub const WRITE_BOUND: usize = 16;
 
+    // and a plan of the sister
+    pub const WRITE_BOUND34: usize = 26;
+
     // How many bytes a buffer has at least that has room for every plan.
     pub fn plan_room() -> usize
         ensures { λ r. ⌜ r ≡ 32 ⌝ }
@@ -82,23 +89,46 @@ impl Device {
         2 * Self::WRITE_BOUND
     }
 
+    // And for every plan of the sister.
+    pub fn plan_room34() -> usize
+        ensures { λ r. ⌜ r ≡ 52 ⌝ }
+    {
+        2 * Self::WRITE_BOUND34
+    }
+
+    // The register file of the part after any reset.
+    fn file_at_reset(part: u8) -> [u8; 128]
+        requires { ⌜ part < 2 ⌝ }
+        ensures { λ r. ⌜ r ≡ defaults (partOf part) ⌝ }
+    {
+        let mut words = [0u64; 28];
+        words_device::power_on(&mut words, part as u64, 0, 0);
+        let mut file = [0u8; 128];
+        words_images::to_file(&words, part as u64, &mut file);
+        file
+    }
+
     // The register file after any reset.
     pub fn reset_values() -> [u8; 128]
         ensures { λ r. ⌜ r ≡ defaults part24 ⌝ }
     {
-        let mut words = [0u64; 28];
-        words_device::power_on(&mut words, 0, 0, 0);
-        let mut file = [0u8; 128];
-        words_images::to_file(&words, 0, &mut file);
-        file
+        Self::file_at_reset(PART24)
     }
 
-    // A device at power-on, at this address choice and with these levels.
-    pub fn power_on(choice: u8, levels: u64) -> Made
-        ensures { λ m. ⌜ MadeOf part24 choice levels (m .refusal) (stateIn (m .device)) ⌝ }
+    // And the sister's.
+    pub fn reset_values34() -> [u8; 128]
+        ensures { λ r. ⌜ r ≡ defaults part34 ⌝ }
     {
-        let refusal = making_refusal(choice, levels);
-        let file = Self::reset_values();
+        Self::file_at_reset(PART34)
+    }
+
+    // A device of the part at power-on.
+    fn at_power_on(part: u8, choice: u8, levels: u64) -> Made
+        requires { ⌜ part < 2 ⌝ }
+        ensures { λ m. ⌜ Makes part choice levels m ⌝ }
+    {
+        let refusal = making_refusal(part, choice, levels);
+        let file = Self::file_at_reset(part);
         let sets = Sets {
             level: levels,
             reference: levels,
@@ -106,6 +136,7 @@ impl Device {
             edge: 0,
         };
         let device = Device {
+            part,
             file,
             sets,
             pointer: 0,
@@ -117,10 +148,25 @@ impl Device {
         Made { refusal, device }
     }
 
+    // A device at power-on, at this address choice and with these levels.
+    pub fn power_on(choice: u8, levels: u64) -> Made
+        ensures { λ m. ⌜ Makes 0 choice levels m ⌝ }
+    {
+        Self::at_power_on(PART24, choice, levels)
+    }
+
+    // And its sister.
+    pub fn power_on34(choice: u8, levels: u64) -> Made
+        ensures { λ m. ⌜ Makes 1 choice levels m ⌝ }
+    {
+        Self::at_power_on(PART34, choice, levels)
+    }
+
     // The words of the image, if it may stand: what refusal 3 asks.
     fn pack(self, words: &mut [u64; 28]) -> bool
-        ensures { λ fits. ⌜ Packs 0 (stateIn self) fits (now (words .entry)) (now (words .exit)) ⌝ }
+        ensures { λ fits. ⌜ Packs (self .part) (stateIn self) fits (now (words .entry)) (now (words .exit)) ⌝ }
     {
+        let part = self.part as u64;
         let file = self.file;
         let pointer = self.pointer as u64;
         let bus = self.bus as u64;
@@ -128,7 +174,7 @@ impl Device {
         let line = self.line as u64;
         words_images::pack(
             words,
-            0,
+            part,
             &file,
             self.sets,
             pointer,
@@ -141,7 +187,7 @@ impl Device {
 
     // One event: the image is packed, the words are stepped, and what they hold then is unpacked.
     pub fn step(self, kind: u32, arg: u64) -> Stepped
-        ensures { λ s. ⌜ out (s .answer) (stateIn (s .device)) ≡ stepped part24 (stateIn self) kind arg ⌝ }
+        ensures { λ s. ⌜ Steps self kind arg s ⌝ }
     {
         let mut words = [0u64; 28];
         if !self.pack(&mut words) {
@@ -155,6 +201,7 @@ impl Device {
         let after = words_images::unpack(&words, &mut file);
         let sets = after.sets;
         let device = Device {
+            part: self.part,
             file,
             sets,
             pointer: after.pointer,
@@ -168,7 +215,7 @@ impl Device {
 
     // The pins driven low.
     pub fn low(self) -> Driven
-        ensures { λ a. ⌜ a ≡ lowOf part24 (stateIn self) ⌝ }
+        ensures { λ a. ⌜ a ≡ lowOf self ⌝ }
     {
         let mut words = [0u64; 28];
         if !self.pack(&mut words) {
@@ -177,7 +224,7 @@ impl Device {
                 pins: 0,
             };
         }
-        let pins = words_views::low(&words, PINS24);
+        let pins = words_views::low(&words, map::pins_of(self.part as u64));
         Driven {
             refusal: NONE,
             pins,
@@ -186,7 +233,7 @@ impl Device {
 
     // The pins driven high.
     pub fn high(self) -> Driven
-        ensures { λ a. ⌜ a ≡ highOf part24 (stateIn self) ⌝ }
+        ensures { λ a. ⌜ a ≡ highOf self ⌝ }
     {
         let mut words = [0u64; 28];
         if !self.pack(&mut words) {
@@ -204,7 +251,7 @@ impl Device {
 
     // Whether INT is asserted. Refused it counts as asserted: nobody is to take a refusal for quiet.
     pub fn int(self) -> Line
-        ensures { λ a. ⌜ a ≡ lineOf part24 (stateIn self) ⌝ }
+        ensures { λ a. ⌜ a ≡ lineOf self ⌝ }
     {
         let mut words = [0u64; 28];
         if !self.pack(&mut words) {
@@ -222,7 +269,7 @@ impl Device {
 
     // The byte that a fetch of register n would show: input port bytes, status bytes and all others.
     pub fn show(self, n: u8) -> Shown
-        ensures { λ a. ⌜ a ≡ shownOf part24 (stateIn self) n ⌝ }
+        ensures { λ a. ⌜ a ≡ shownOf self n ⌝ }
     {
         let mut words = [0u64; 28];
         if !self.pack(&mut words) {
@@ -237,7 +284,7 @@ impl Device {
                 byte: 0,
             };
         }
-        let row = words_rows::row24(n);
+        let row = words_rows::row_of(self.part as u64, n);
         if row == 0 {
             return Shown {
                 refusal: BAD_ARGUMENT,

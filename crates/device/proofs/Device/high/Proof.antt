@@ -2,7 +2,7 @@
 use borrow.Author.Needs.{needs}
 use mathlib.Core.Path.{ap, _∙_}
 use borrow.Author.Tests.{not-true, not-false}
-use Rattle.map.specs.Map.{part24}
+use Rattle.map.specs.Map.{partOf}
 use Rattle.registers.specs.Registers.{drivenHigh}
 use Rattle.device_rules.specs.Device.{State}
 use Rattle.device.specs.Asked.{driven}
@@ -17,8 +17,9 @@ returns-2 : tie.Need-returns-2
 returns-2 c =
     let e = c .before .before in
     let p = e .before .pack .ensures in
+    let part = e .before .before .before .args .self .part in
     let fits = not-false _ (e .if1 .left) in
-    ap (driven 0) (c .high .ensures 0 (p .packed fits .0 .fit)) ∙ asked p (λ (s : State). driven 0 (drivenHigh part24 (s .regs))) _ fits
+    ap (driven 0) (c .high .ensures part (p .packed fits .0 .fit)) ∙ asked p (λ (s : State). driven 0 (drivenHigh (partOf part) (s .regs))) _ fits
 
 pub high-spec : {M : Type 1} → statement M
 high-spec = tie.close (tie.spec (λ c κs. search needs) returns (λ c κs. search needs) returns-2)

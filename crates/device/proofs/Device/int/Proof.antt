@@ -2,7 +2,7 @@
 use borrow.Author.Needs.{needs}
 use mathlib.Core.Path.{ap, _∙_}
 use borrow.Author.Tests.{not-true, not-false}
-use Rattle.map.specs.Map.{part24}
+use Rattle.map.specs.Map.{partOf}
 use Rattle.registers.specs.Registers.{intAsserted}
 use Rattle.device_rules.specs.Device.{State}
 use Rattle.device.specs.Asked.{line}
@@ -17,8 +17,9 @@ returns-2 : tie.Need-returns-2
 returns-2 c =
     let e = c .before .before in
     let p = e .before .pack .ensures in
+    let part = e .before .before .before .args .self .part in
     let fits = not-false _ (e .if1 .left) in
-    ap (line 0) (c .int .ensures 0 (p .packed fits .0 .right)) ∙ asked p (λ (s : State). line 0 (intAsserted part24 (s .regs))) _ fits
+    ap (line 0) (c .int .ensures part (p .packed fits .0 .right)) ∙ asked p (λ (s : State). line 0 (intAsserted (partOf part) (s .regs))) _ fits
 
 pub int-spec : {M : Type 1} → statement M
 int-spec = tie.close (tie.spec (λ c κs. search needs) returns (λ c κs. search needs) returns-2)
