@@ -93,7 +93,7 @@ impl Device {
     pub fn plan_room34() -> usize
         ensures { λ r. ⌜ r ≡ 52 ⌝ }
     {
-        2 * Self::WRITE_BOUND34
+        Self::WRITE_BOUND34 * 2
     }
 
     // The register file of the part after any reset.

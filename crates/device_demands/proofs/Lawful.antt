@@ -1,11 +1,11 @@
 -- What a part's map must be for the theorems about its device: tests that antt computes for both parts. Assumes nothing.
 use mathlib.Core.Path.{_≡_, refl, sym, ap, _∙_}
 use mathlib.Core.Bool.{Bool, true, false, not, _&&_, _||_}
-use Prim.Native.Nat.{ℕ, _+_, _-_, _*_, _/_, _%_, _<_, _≤_, min}
+use Prim.Native.Nat.{ℕ, zero, suc, _+_, _-_, _*_, _/_, _%_, _<_, _≤_, min}
 use borrow.Author.Tests.{ltb-true, leb-true}
 use lib.Dec.{eqb, ltb, leb}
 use Rattle.bits.proofs.Decide.{eachBool, and-left, and-right}
-use Rattle.map.specs.Map.{Part, Kind, part24, part34, firstOf, kindAt, code, reserved, next, defaults, roomAt, whole, fitting, fileFits}
+use Rattle.map.specs.Map.{Part, Kind, part24, part34, partOf, firstOf, kindAt, code, reserved, next, defaults, roomAt, whole, fitting, fileFits}
 use Rattle.map.specs.Map.Kind.{Input, Status, InputStatus, Configuration, PortKind}
 use Rattle.registers.proofs.Pinwise.{Mapped, mapped24, mapped34}
 
@@ -66,3 +66,8 @@ shown-place p ok k t n hn e =
     let near = ltb (n - firstOf p k) (p .ports) in
     let past = leb (min 8 (p .width - 8 * (n - firstOf p k))) (roomAt p n) in
     (ltb-true _ _ (and-left near past here), leb-true _ _ (and-right near past here))
+
+-- both parts are lawful
+pub lawful : (part : ℕ) → Lawful (partOf part)
+lawful zero = lawful24
+lawful (suc n) = lawful34

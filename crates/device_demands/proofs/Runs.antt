@@ -1,26 +1,27 @@
 -- Runs from power-on: never refused for the image, on every lawful part, and the code's run is the specification's. Assumes nothing.
-use mathlib.Core.Path.{_≡_, refl, sym, ap, ap₂, subst, _∙_}
+use mathlib.Core.Path.{_≡_, refl, ap, ap₂, _∙_}
 use mathlib.Core.Bool.{Bool, true, false, cond, not, _&&_}
 use mathlib.Core.List.{List, [], _∷_, _++_}
-use Prim.Native.Nat.{ℕ, _+_, _^_, _<_}
+use Prim.Native.Nat.{ℕ, zero, suc, _+_, _^_, _<_}
 use native.Mathlib.Omega.{arith}
-use lib.Dec.{eqb, leb}
+use borrow.Author.Tests.{lt-ltb}
+use lib.Dec.{eqb, ltb, leb}
 use Rattle.bits.proofs.Decide.{either-arm}
-use Rattle.map.specs.Map.{Part, part24, reserved}
+use Rattle.map.specs.Map.{Part, partOf, reserved}
 use Rattle.registers.specs.Registers.{drivenLow, drivenHigh, intAsserted}
 use Rattle.device_rules.specs.Device.{State, Event, Bus, Outcome, busAt, out, addressByte, byteIn, fetchIn, step}
-use Rattle.device_rules.specs.Refusals.{argumentFits, refusal, stepped, eventOf}
+use Rattle.device_rules.specs.Refusals.{imageFits, argumentFits, refusal, stepped, eventOf}
 use Rattle.device_rules.specs.Device.Bus.{Idle, Opened, Chosen, Filling, Sending, Call, Armed, Deaf}
 use Rattle.device_rules.specs.Device.Event.{Start, Stop, HardwareReset, ByteSent, ByteFetched, Levels}
 use Rattle.device_rules.specs.Answers.{refusalNumber}
 use Rattle.device_rules.specs.declared.Answer.{Answer}
 use Rattle.device_rules.specs.declared.Answer.the-variants.{Nothing, Refused}
 use Rattle.device_rules.specs.PowerOn.{powerOn}
-use Rattle.device.specs.Held.{stateIn}
+use Rattle.device.specs.Held.{stateIn, fitsIn, steppedIn, Makes}
 use Rattle.device.specs.declared.Device.{Device}
 use Rattle.device.specs.Asked.{driven, line}
-use Rattle.device_demands.specs.Run.{Asked, seen, seenFrom, run, answers, Functions, Said, said, saidFrom, runWith, unrefused, Represented, Askable, Contracts}
-use Rattle.device_demands.proofs.Lawful.{Lawful, lawful24}
+use Rattle.device_demands.specs.Run.{Asked, seen, seenFrom, run, answers, Functions, making, Said, said, saidFrom, runWith, unrefused, Represented, Askable, Contracts}
+use Rattle.device_demands.proofs.Lawful.{Lawful, lawful}
 use Rattle.device_demands.proofs.Keeps.{WellFormed, image-of, stepped-keeps, power-on-fits}
 
 -- ---- a step answers, and does not refuse
@@ -86,38 +87,68 @@ pub never-refused-for-image : (p : Part) → Lawful p → (choice levels : ℕ) 
     → noneBroken (answers p (powerOn p choice levels) es) ≡ true
 never-refused-for-image p ok choice levels hc hl es = run-unbroken p ok (powerOn p choice levels) (power-on-fits p ok choice levels hc hl) es
 
--- ---- any functions with the contracts of `Device::power_on`, `step`, `low`, `high` and `int`, as the code has them, say from power-on on what the rules' run sees,
--- and none of the questions is ever refused
-module _ (f : Functions) (c : Contracts f) where
-  said-seen : (d : Device) → Represented d → WellFormed part24 (stateIn d) → (answer : Answer) → said f answer d ∷ [] ≡ unrefused (seen part24 (out answer (stateIn d)) ∷ [])
-  said-seen d r g answer =
-      let fits = image-of part24 (stateIn d) (g .sound) in
-      let low : f .low d ≡ driven 0 (drivenLow part24 (stateIn d .regs)) = c .low d r ∙ simp fits in
-      let high : f .high d ≡ driven 0 (drivenHigh part24 (stateIn d .regs)) = c .high d r ∙ simp fits in
-      let int : f .int d ≡ line 0 (intAsserted part24 (stateIn d .regs)) = c .int d r ∙ simp fits in
+-- ---- any functions with the contracts of `Device::power_on`, `power_on34`, `step`, `low`, `high` and `int`, as the code has them, say of both parts from
+-- power-on on what the rules' run sees, and none of the questions is ever refused
+made : (f : Functions) → Contracts f → (part : ℕ) → part < 2 → (choice levels : ℕ) → choice < 2 ^ 8 → levels < 2 ^ 64
+    → Makes part choice levels (making f part choice levels) × Represented (making f part choice levels .device)
+made f c zero known = c .power-on
+made f c (suc zero) known = c .power-on34
+made f c (suc (suc n)) known = absurd (omega arith)
+
+-- its levels fit a word of the code
+fits-word : (part levels : ℕ) → levels < 2 ^ partOf part .width → levels < 2 ^ 64
+fits-word zero levels h = omega (arith, h)
+fits-word (suc n) levels h = omega (arith, h)
+
+-- a device of the part that holds the state s
+record Is (part : ℕ) (s : State) (d : Device) : Type 0 where
+  represented : Represented d
+  of-part : d .part ≡ part
+  holds : stateIn d ≡ s
+
+module _ (f : Functions) (c : Contracts f) (part : ℕ) (known : part < 2) where
+  abbrev p : Part
+  p = partOf part
+
+  -- a question, where the state is well formed
+  told : {A : Type 0} (g : ℕ → State → A) (none : A) (s : State) → WellFormed p s → (d : Device) → Is part s d → cond (fitsIn d) (g (d .part) (stateIn d)) none ≡ g part s
+  told g none s w d is =
+      ap₂ (λ (q : ℕ) (x : State). cond (ltb q 2 && imageFits (partOf q) x) (g q x) none) (is .of-part) (is .holds)
+      ∙ simp (lt-ltb part 2 known, image-of p s (w .sound))
+
+  said-seen : (s : State) → WellFormed p s → (d : Device) → Is part s d → (answer : Answer) → said f answer d ∷ [] ≡ unrefused (seen p (out answer s) ∷ [])
+  said-seen s w d is answer =
+      let r = is .represented in
+      let low = c .low d r ∙ told (λ q x. driven 0 (drivenLow (partOf q) (x .regs))) (driven 3 0) s w d is in
+      let high = c .high d r ∙ told (λ q x. driven 0 (drivenHigh (partOf q) (x .regs))) (driven 3 0) s w d is in
+      let int = c .int d r ∙ told (λ q x. line 0 (intAsserted (partOf q) (x .regs))) (line 3 true) s w d is in
       λ j. record { answer = answer; low = low j; high = high j; int = int j } ∷ []
 
-  follows : (d : Device) → Represented d → (s : State) → WellFormed part24 s → stateIn d ≡ s → (es : List Asked) → Askable es
-      → saidFrom f d es ≡ unrefused (seenFrom part24 s es)
-  unfolding saidFrom seenFrom
-  follows d r s g e [] a = refl
-  follows d r s g e (q ∷ es) a =
-      let o = f .step d (q .kind) (q .arg) in
-      let t = c .step d r (q .kind) (q .arg) (a .0) (a .1) in
-      let same : out (o .answer) (stateIn (o .device)) ≡ stepped part24 s (q .kind) (q .arg) = t .0 ∙ ap (λ (s : State). stepped part24 s (q .kind) (q .arg)) e in
-      let kept = stepped-keeps part24 lawful24 s g (q .kind) (q .arg) in
-      let state : stateIn (o .device) ≡ stepped part24 s (q .kind) (q .arg) .after = ap (λ (o : Outcome). o .after) same in
-      ap₂ (λ (x xs : List Said). x ++ xs)
-      (said-seen (o .device) (t .1) (subst (WellFormed part24) (sym state) kept) (o .answer) ∙ ap (λ (o : Outcome). unrefused (seen part24 o ∷ [])) same)
-      (follows (o .device) (t .1) (stepped part24 s (q .kind) (q .arg) .after) kept state es (a .2))
+  as-ruled : (s : State) (d : Device) → Is part s d → (kind arg : ℕ) → steppedIn d kind arg ≡ stepped p s kind arg
+  as-ruled s d is kind arg =
+      ap₂ (λ (q : ℕ) (x : State). cond (ltb q 2) (stepped (partOf q) x kind arg) (out (Refused 3) x)) (is .of-part) (is .holds) ∙ simp (lt-ltb part 2 known)
 
-  pub run-follows : (choice levels : ℕ) → choice < 4 → levels < 2 ^ 24 → (es : List Asked) → Askable es
-      → runWith f choice levels es ≡ unrefused (run part24 choice levels es)
-  run-follows choice levels hc hl es a =
-      let m = c .power-on choice levels (omega (arith, hc)) (omega (arith, hl)) in
-      let d = f .power-on choice levels .device in
-      let s = powerOn part24 choice levels in
-      let g = power-on-fits part24 lawful24 choice levels hc hl in
+  follows : (s : State) → WellFormed p s → (d : Device) → Is part s d → (es : List Asked) → Askable es → saidFrom f d es ≡ unrefused (seenFrom p s es)
+  unfolding saidFrom seenFrom
+  follows s w d is [] a = refl
+  follows s w d is (q ∷ es) a =
+      let o = f .step d (q .kind) (q .arg) in
+      let t = c .step d (is .represented) (q .kind) (q .arg) (a .0) (a .1) in
+      let same : out (o .answer) (stateIn (o .device)) ≡ stepped p s (q .kind) (q .arg) = t .0 .outcome ∙ as-ruled s d is (q .kind) (q .arg) in
+      let next = stepped p s (q .kind) (q .arg) .after in
+      let kept = stepped-keeps p (lawful part) s w (q .kind) (q .arg) in
+      let is' : Is part next (o .device) =
+      record { represented = t .1; of-part = t .0 .part-stays ∙ is .of-part; holds = ap (λ (o : Outcome). o .after) same } in
       ap₂ (λ (x xs : List Said). x ++ xs)
-      (said-seen d (m .1) (subst (WellFormed part24) (sym (m .0 .made)) g) Nothing ∙ ap (λ (s : State). unrefused (seen part24 (out Nothing s) ∷ [])) (m .0 .made))
-      (follows d (m .1) s g (m .0 .made) es a)
+      (said-seen next kept (o .device) is' (o .answer) ∙ ap (λ (a : Answer). unrefused (seen p (out a next) ∷ [])) (ap (λ (o : Outcome). o .answer) same))
+      (follows next kept (o .device) is' es (a .2))
+
+  pub run-follows : (choice levels : ℕ) → choice < 4 → levels < 2 ^ p .width → (es : List Asked) → Askable es
+      → runWith f part choice levels es ≡ unrefused (run p choice levels es)
+  run-follows choice levels hc hl es a =
+      let m = made f c part known choice levels (omega (arith, hc)) (fits-word part levels hl) in
+      let d = making f part choice levels .device in
+      let s = powerOn p choice levels in
+      let w = power-on-fits p (lawful part) choice levels hc hl in
+      let is : Is part s d = record { represented = m .1; of-part = m .0 .part-is; holds = m .0 .as-ruled .made } in
+      ap₂ (λ (x xs : List Said). x ++ xs) (said-seen s w d is Nothing) (follows s w d is es a)

@@ -2,16 +2,16 @@
 use mathlib.Core.Path.{_≡_}
 use mathlib.Core.Bool.{Bool}
 use mathlib.Core.List.{List, [], _∷_}
-use Prim.Native.Nat.{ℕ, _^_, _<_}
+use Prim.Native.Nat.{ℕ, zero, suc, _^_, _<_}
 use lib.ListN.{length, getD}
-use Rattle.map.specs.Map.{Part, part24}
+use Rattle.map.specs.Map.{Part}
 use Rattle.registers.specs.Registers.{drivenLow, drivenHigh, intAsserted}
 use Rattle.device_rules.specs.Device.{State, Outcome, out}
 use Rattle.device_rules.specs.Refusals.{stepped}
-use Rattle.device_rules.specs.PowerOn.{powerOn, MadeOf}
+use Rattle.device_rules.specs.PowerOn.{powerOn}
 use Rattle.device_rules.specs.declared.Answer.{Answer}
 use Rattle.device_rules.specs.declared.Answer.the-variants.{Nothing}
-use Rattle.device.specs.Held.{stateIn}
+use Rattle.device.specs.Held.{Makes, Steps}
 use Rattle.device.specs.Asked.{driven, line, lowOf, highOf, lineOf}
 use Rattle.device.specs.declared.Device.{Device}
 use Rattle.device.specs.declared.Made.{Made}
@@ -56,10 +56,16 @@ answers p s (e ∷ es) = stepped p s (e .kind) (e .arg) .answer ∷ answers p (s
 -- the functions of `Device`, each with its result for its arguments
 pub record Functions : Type 0 where
   pub power-on : (choice levels : ℕ) → Made
+  pub power-on34 : (choice levels : ℕ) → Made
   pub step : Device → (kind arg : ℕ) → Stepped
   pub low : Device → Driven
   pub high : Device → Driven
   pub int : Device → Line
+
+-- the function that makes a device of that part
+abbrev pub making : Functions → (part choice levels : ℕ) → Made
+making f zero choice levels = f .power-on choice levels
+making f (suc n) choice levels = f .power-on34 choice levels
 
 -- what the code says: the answer, and to the three questions a refusal's number and the value
 pub record Said : Type 0 where
@@ -75,8 +81,8 @@ unfoldable pub saidFrom : Functions → Device → List Asked → List Said
 saidFrom f d [] = []
 saidFrom f d (e ∷ es) = said f (f .step d (e .kind) (e .arg) .answer) (f .step d (e .kind) (e .arg) .device) ∷ saidFrom f (f .step d (e .kind) (e .arg) .device) es
 
-abbrev pub runWith : Functions → (choice levels : ℕ) → List Asked → List Said
-runWith f choice levels es = said f Nothing (f .power-on choice levels .device) ∷ saidFrom f (f .power-on choice levels .device) es
+abbrev pub runWith : Functions → (part choice levels : ℕ) → List Asked → List Said
+runWith f part choice levels es = said f Nothing (making f part choice levels .device) ∷ saidFrom f (making f part choice levels .device) es
 
 -- what is seen, said with no refusal
 abbrev pub unrefused : List Seen → List Said
@@ -84,8 +90,9 @@ unrefused [] = []
 unrefused (x ∷ xs) = record { answer = x .answer; low = driven 0 (x .low); high = driven 0 (x .high); int = line 0 (x .int) } ∷ unrefused xs
 
 -- ---- what the code's types hold
--- a device: 128 bytes, five pin sets of 64 bits, four bytes
+-- a device: 128 bytes, five pin sets of 64 bits, five bytes
 pub record Represented (d : Device) : Type 0 where
+  pub part : d .part < 2 ^ 8
   pub entries : length (d .file) ≡ 128
   pub bytes : (n : ℕ) → getD (d .file) n 0 < 2 ^ 8
   pub level : d .sets .level < 2 ^ 64
@@ -106,9 +113,11 @@ Askable (e ∷ es) = (e .kind < 2 ^ 32) × (e .arg < 2 ^ 64) × Askable es
 -- the contracts as the code has them: of arguments that its types hold, and with results that they hold
 pub record Contracts (f : Functions) : Type 0 where
   pub power-on : (choice levels : ℕ) → choice < 2 ^ 8 → levels < 2 ^ 64
-      → MadeOf part24 choice levels (f .power-on choice levels .refusal) (stateIn (f .power-on choice levels .device)) × Represented (f .power-on choice levels .device)
+      → Makes 0 choice levels (f .power-on choice levels) × Represented (f .power-on choice levels .device)
+  pub power-on34 : (choice levels : ℕ) → choice < 2 ^ 8 → levels < 2 ^ 64
+      → Makes 1 choice levels (f .power-on34 choice levels) × Represented (f .power-on34 choice levels .device)
   pub step : (d : Device) → Represented d → (kind arg : ℕ) → kind < 2 ^ 32 → arg < 2 ^ 64
-      → (out (f .step d kind arg .answer) (stateIn (f .step d kind arg .device)) ≡ stepped part24 (stateIn d) kind arg) × Represented (f .step d kind arg .device)
-  pub low : (d : Device) → Represented d → f .low d ≡ lowOf part24 (stateIn d)
-  pub high : (d : Device) → Represented d → f .high d ≡ highOf part24 (stateIn d)
-  pub int : (d : Device) → Represented d → f .int d ≡ lineOf part24 (stateIn d)
+      → Steps d kind arg (f .step d kind arg) × Represented (f .step d kind arg .device)
+  pub low : (d : Device) → Represented d → f .low d ≡ lowOf d
+  pub high : (d : Device) → Represented d → f .high d ≡ highOf d
+  pub int : (d : Device) → Represented d → f .int d ≡ lineOf d

@@ -1,6 +1,6 @@
 -- `Device::low`: packed, the words' drive is the image's; not packed, 3 (`asked`, `refused`). Assumes nothing.
 use borrow.Author.Needs.{needs}
-use mathlib.Core.Path.{refl, ap, _∙_}
+use mathlib.Core.Path.{ap, _∙_}
 use borrow.Author.Tests.{not-true, not-false}
 use Rattle.map.specs.Map.{partOf}
 use Rattle.registers.specs.Registers.{drivenLow}
