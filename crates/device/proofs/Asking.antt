@@ -1,11 +1,10 @@
 -- A device asked and stepped through the words that it was packed into; one that does not pack is a broken image. Assumes nothing.
-use mathlib.Core.Path.{_≡_, refl, sym, ap, _∙_}
+use mathlib.Core.Path.{_≡_, refl, sym, ap, ap₂, _∙_}
 use mathlib.Core.Bool.{Bool, true, false, cond, not, _&&_, _||_}
 use mathlib.Core.List.{List}
 use Prim.Native.Nat.{ℕ, _<_}
-use borrow.Author.Tests.{le-ltb}
+use borrow.Author.Tests.{lt-ltb, le-ltb}
 use lib.Dec.{eqb, ltb}
-use Rattle.bits.proofs.Decide.{and-left}
 use Rattle.map.specs.Map.{Part, kindAt, code, reserved, partOf}
 use Rattle.map.specs.Map.Kind.{Reserved}
 use Rattle.device_rules.specs.Device.{State, out}
@@ -46,6 +45,7 @@ not-stepped d kind arg e = go (ltb (d .part) 2) e
     go true z = broken (partOf (d .part)) (held.stateIn d) kind arg z
     go false z = refl
 
--- any other is stepped by the rules of its part
-pub by-its-rules : (d : Device) (kind arg : ℕ) → fitsIn d ≡ true → stepped (partOf (d .part)) (held.stateIn d) kind arg ≡ steppedIn d kind arg
-by-its-rules d kind arg e = simp (and-left (ltb (d .part) 2) (imageFits (partOf (d .part)) (held.stateIn d)) e)
+-- a device of one of the two parts is stepped by the rules of its part
+pub ruled : (d : Device) {part : ℕ} {s : State} (kind arg : ℕ) → part < 2 → d .part ≡ part → held.stateIn d ≡ s → steppedIn d kind arg ≡ stepped (partOf part) s kind arg
+ruled d {part} kind arg known p e =
+    ap₂ (λ (q : ℕ) (x : State). cond (ltb q 2) (stepped (partOf q) x kind arg) (out (Refused 3) x)) p e ∙ simp (lt-ltb part 2 known)

@@ -17,7 +17,8 @@ use Rattle.device_rules.specs.Answers.{refusalNumber}
 use Rattle.device_rules.specs.declared.Answer.{Answer}
 use Rattle.device_rules.specs.declared.Answer.the-variants.{Nothing, Refused}
 use Rattle.device_rules.specs.PowerOn.{powerOn}
-use Rattle.device.specs.Held.{stateIn, fitsIn, steppedIn, Makes}
+use Rattle.device.specs.Held.{stateIn, fitsIn, Makes}
+use Rattle.device.proofs.Asking.{ruled}
 use Rattle.device.specs.declared.Device.{Device}
 use Rattle.device.specs.Asked.{driven, line}
 use Rattle.device_demands.specs.Run.{Asked, seen, seenFrom, run, answers, Functions, making, Said, said, saidFrom, runWith, unrefused, Represented, Askable, Contracts}
@@ -124,17 +125,13 @@ module _ (f : Functions) (c : Contracts f) (part : ℕ) (known : part < 2) where
       let int = c .int d r ∙ told (λ q x. line 0 (intAsserted (partOf q) (x .regs))) (line 3 true) s w d is in
       λ j. record { answer = answer; low = low j; high = high j; int = int j } ∷ []
 
-  as-ruled : (s : State) (d : Device) → Is part s d → (kind arg : ℕ) → steppedIn d kind arg ≡ stepped p s kind arg
-  as-ruled s d is kind arg =
-      ap₂ (λ (q : ℕ) (x : State). cond (ltb q 2) (stepped (partOf q) x kind arg) (out (Refused 3) x)) (is .of-part) (is .holds) ∙ simp (lt-ltb part 2 known)
-
   follows : (s : State) → WellFormed p s → (d : Device) → Is part s d → (es : List Asked) → Askable es → saidFrom f d es ≡ unrefused (seenFrom p s es)
   unfolding saidFrom seenFrom
   follows s w d is [] a = refl
   follows s w d is (q ∷ es) a =
       let o = f .step d (q .kind) (q .arg) in
       let t = c .step d (is .represented) (q .kind) (q .arg) (a .0) (a .1) in
-      let same : out (o .answer) (stateIn (o .device)) ≡ stepped p s (q .kind) (q .arg) = t .0 .outcome ∙ as-ruled s d is (q .kind) (q .arg) in
+      let same : out (o .answer) (stateIn (o .device)) ≡ stepped p s (q .kind) (q .arg) = t .0 .outcome ∙ ruled d (q .kind) (q .arg) known (is .of-part) (is .holds) in
       let next = stepped p s (q .kind) (q .arg) .after in
       let kept = stepped-keeps p (lawful part) s w (q .kind) (q .arg) in
       let is' : Is part next (o .device) =

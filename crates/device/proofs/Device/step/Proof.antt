@@ -1,6 +1,6 @@
 -- `Device::step`: packed, stepped on the words, unpacked (`unpacked`); a device that does not pack is refused with 3 (`not-stepped`). Assumes nothing.
 use borrow.Author.Needs.{needs}
-use mathlib.Core.Path.{refl, ap, ap₂, _∙_}
+use mathlib.Core.Path.{refl, sym, ap, ap₂, _∙_}
 use borrow.Author.Tests.{not-true, not-false}
 use Rattle.map.specs.Map.{partOf}
 use Rattle.device_rules.specs.Device.{State, out}
@@ -8,7 +8,7 @@ use Rattle.device_rules.specs.Held.{stateOf}
 use Rattle.device_rules.specs.Refusals.{stepped}
 use Rattle.words_device.proofs.Naming.{named, obeyed}
 use Rattle.words_images.proofs.Packing.{unpacked}
-use Rattle.device.proofs.Asking.{no-image, its-image, not-stepped, by-its-rules}
+use Rattle.device.proofs.Asking.{no-image, not-stepped, ruled}
 use Rattle.device.proofs.Device.step.Statement.{statement}
 use Rattle.device.proofs.Device.step.Tie as tie
 
@@ -36,7 +36,7 @@ returns-2 c =
     record {
       outcome =
           ap (λ (s : State). out (v .event .result) s) (ap₂ stateOf (u .unpack .ensures .0) (u .unpack .ensures .1) ∙ unpacked part _ (left .packed))
-          ∙ left .outcome ∙ ap (λ (s : State). stepped (partOf part) s (x .kind) (x .arg)) (image .1) ∙ by-its-rules (x .self) (x .kind) (x .arg) (its-image p fits);
+          ∙ left .outcome ∙ ap (λ (s : State). stepped (partOf part) s (x .kind) (x .arg)) (image .1) ∙ sym (ruled (x .self) (x .kind) (x .arg) (image .0 .known-part) refl refl);
       part-stays = refl;
     }
 
