@@ -1,15 +1,20 @@
 -- What is read field by field is the image that the line says, and the step on it is the line's answer. Assumes nothing.
-use mathlib.Core.Path.{_≡_}
+use mathlib.Core.Path.{_≡_, ap, ap₂, _∙_}
 use mathlib.Core.Bool.{Bool, true, false}
 use mathlib.Core.List.{List}
-use Prim.Native.Nat.{ℕ}
+use Prim.Native.Nat.{ℕ, _<_}
 use Rattle.text_answers.specs.Answers.{refusedLine}
-use Rattle.map.specs.Map.{part24}
+use Rattle.map.specs.Map.{partOf}
 use Rattle.registers.specs.Registers.{core}
 use Rattle.registers.specs.Interrupt.{interrupt}
-use Rattle.device_rules.specs.Device.{State, Outcome, state}
+use Rattle.device_rules.specs.Device.{state, out}
 use Rattle.device_rules.specs.Refusals.{stepped}
 use Rattle.probe_fields.specs.Fields.{readable, bytesAt, numberIn}
+use Rattle.device.specs.Held.{stateIn, Steps}
+use Rattle.device.specs.declared.Device.{Device}
+use Rattle.device.specs.declared.Stepped.{Stepped}
+use Rattle.device.proofs.Asking.{ruled}
+use Rattle.probe_images.specs.Asked.{Answers}
 use Rattle.probe_images.specs.Images.{imageIn, kindIn, argumentIn, probeLine, probeText}
 
 -- ---- what the code gathers
@@ -20,16 +25,17 @@ pub image-is : (line : List ℕ) {file : List ℕ} {level reference held edge po
 image-is line f l r h e p b c s i =
     λ j. state (core (f j) (record { level = l j; reference = r j; held = h j; edge = e j })) (interrupt (s j) (i j)) (p j) (b j) (c j)
 
-pub step-is : (line : List ℕ) {s : State} {o : Outcome} {kind arg : ℕ} → s ≡ imageIn line → kind ≡ kindIn line → arg ≡ argumentIn line → o ≡ stepped part24 s kind arg
-    → o ≡ stepped part24 (imageIn line) (kindIn line) (argumentIn line)
-step-is line i k a o = rw (← i, ← k, ← a) o
+pub step-is : (part : ℕ) → part < 2 → (line : List ℕ) {d : Device} {t : Stepped} {kind arg : ℕ} → stateIn d ≡ imageIn line → d .part ≡ part → kind ≡ kindIn line → arg ≡ argumentIn line
+    → Steps d kind arg t → Answers part line t
+step-is part known line {d} {t} {kind} {arg} i p k a s =
+    record { outcome = s .outcome ∙ ruled d kind arg known p i ∙ ap₂ (λ (k a : ℕ). stepped (partOf part) (imageIn line) k a) k a; part-stays = s .part-stays ∙ p }
 
 -- ---- what a line is answered
-module _ (line : List ℕ) {t : Bool} (read : t ≡ readable line) where
-  pub unreadable-text : t ≡ false → refusedLine 7 ≡ probeText line
+module _ (part : ℕ) (line : List ℕ) {t : Bool} (read : t ≡ readable line) where
+  pub unreadable-text : t ≡ false → refusedLine 7 ≡ probeText (partOf part) line
   unfolding probeText
   unreadable-text e = rw (← read, e)
 
-  pub probed-text : t ≡ true → {o : Outcome} → o ≡ stepped part24 (imageIn line) (kindIn line) (argumentIn line) → probeLine o ≡ probeText line
+  pub probed-text : t ≡ true → {s : Stepped} → Answers part line s → probeLine (partOf (s .device .part)) (out (s .answer) (stateIn (s .device))) ≡ probeText (partOf part) line
   unfolding probeText
-  probed-text e o = rw (← read, e, o)
+  probed-text e {s} a = ap (λ (c : ℕ). probeLine (partOf c) (out (s .answer) (stateIn (s .device)))) (a .part-stays) ∙ rw (← read, e, a .outcome)

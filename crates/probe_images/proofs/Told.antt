@@ -7,7 +7,7 @@ use lib.ListN.{take, drop}
 use types.Run.{OneOf}
 use denote.Enum.Declared.{tagOf}
 use Rattle.device_rules.proofs.Answer.{the-type}
-use Rattle.map.specs.Map.{part24}
+use Rattle.map.specs.Map.{Part, partOf}
 use Rattle.registers.specs.Registers.{drivenLow, drivenHigh, intAsserted}
 use Rattle.device_rules.specs.Answers.{refusalNumber}
 use Rattle.device_rules.specs.declared.Answer.{Answer}
@@ -17,7 +17,8 @@ use Rattle.text.proofs.Laws.{wrote-as, wrote-both}
 use Rattle.text_answers.specs.Answers.{unlessRefused, answerText, newline, shownText}
 use Rattle.text_answers.proofs.Laws.{answered, told-text}
 use Rattle.device_rules.specs.Device.{State, out as outcome}
-use Rattle.device_rules.specs.Refusals.{imageFits}
+use Rattle.device.specs.Held.{stateIn, fitsIn}
+use Rattle.device.specs.declared.Device.{Device}
 use Rattle.registers.specs.Interrupt.{workedOut}
 use Rattle.words.specs.Words.{coreIn, interruptIn, Fit}
 use Rattle.words_images.specs.Images.{Packs}
@@ -40,15 +41,19 @@ image-text s =
     ∙ fields-both (take 4 (drop 1 widths)) sets (drop 5 widths) (bus ++ kept) refl)
 
 -- ---- an answer by the words that the image was packed into: a refusal shows nothing of them
-module _ {s : State} {fits : Bool} {v w : List ℕ} (p : Packs 0 s fits v w) (int : Bool) (low high : ℕ) (i : interruptIn w ≡ workedOut part24 (coreIn part24 w) → int ≡ intAsserted part24 (coreIn part24 w))
-    (l : low ≡ drivenLow part24 (coreIn part24 w)) (h : Fit part24 w → high ≡ drivenHigh part24 (coreIn part24 w)) where
-  fitting-text : (a : Answer) → imageFits part24 s ≡ true → answerText part24 a int low high ≡ shownText part24 (outcome a s)
-  fitting-text a e =
-      let k = p .packed (p .judged ∙ e) in
-      told-text part24 a s int low high (i (k .0 .right) ∙ ap (λ (x : State). intAsserted part24 (x .regs)) (k .1)) (l ∙ ap (λ (x : State). drivenLow part24 (x .regs)) (k .1))
-      (h (k .0 .fit) ∙ ap (λ (x : State). drivenHigh part24 (x .regs)) (k .1))
+module _ {d : Device} {fits : Bool} {v w : List ℕ} (k : Packs (d .part) (stateIn d) fits v w) (int : Bool) (low high : ℕ)
+    (i : interruptIn w ≡ workedOut (partOf (d .part)) (coreIn (partOf (d .part)) w) → int ≡ intAsserted (partOf (d .part)) (coreIn (partOf (d .part)) w))
+    (l : low ≡ drivenLow (partOf (d .part)) (coreIn (partOf (d .part)) w)) (h : Fit (partOf (d .part)) w → high ≡ drivenHigh (partOf (d .part)) (coreIn (partOf (d .part)) w)) where
+  abbrev p : Part
+  p = partOf (d .part)
 
-  pub words-text : (a : Answer) → (refusalNumber a ≡ 0 → imageFits part24 s ≡ true) → answerText part24 a int low high ≡ shownText part24 (outcome a s)
+  fitting-text : (a : Answer) → fitsIn d ≡ true → answerText p a int low high ≡ shownText p (outcome a (stateIn d))
+  fitting-text a e =
+      let its = k .packed (k .judged ∙ e) in
+      told-text p a (stateIn d) int low high (i (its .0 .right) ∙ ap (λ (x : State). intAsserted p (x .regs)) (its .1)) (l ∙ ap (λ (x : State). drivenLow p (x .regs)) (its .1))
+      (h (its .0 .fit) ∙ ap (λ (x : State). drivenHigh p (x .regs)) (its .1))
+
+  pub words-text : (a : Answer) → (refusalNumber a ≡ 0 → fitsIn d ≡ true) → answerText p a int low high ≡ shownText p (outcome a (stateIn d))
   unfolding answerText shownText
   words-text Nothing f = fitting-text Nothing (f refl)
   words-text Ack f = fitting-text Ack (f refl)
@@ -57,14 +62,14 @@ module _ {s : State} {fits : Bool} {v w : List ℕ} (p : Packs 0 s fits v w) (in
   words-text (Refused n) f = refl
 
 -- ---- the answer
-module _ (answer : Answer) (s : State) {out middle left : List ℕ} {at end last : ℕ} (told : Wrote out at (shownText part24 (outcome answer s)) end middle) where
+module _ (p : Part) (answer : Answer) (s : State) {out middle left : List ℕ} {at end last : ℕ} (told : Wrote out at (shownText p (outcome answer s)) end middle) where
   pub line-answered : OneOf (0 ∷ 1 ∷ 2 ∷ 3 ∷ []) (tagOf the-type answer) → {shown : List ℕ} {after : ℕ} → Wrote middle end (imageText s) after shown
-      → Wrote shown after newline last left → Wrote out at (probeLine (outcome answer s)) last left
+      → Wrote shown after newline last left → Wrote out at (probeLine p (outcome answer s)) last left
   unfolding probeLine
   line-answered k image ended =
-      wrote-as (ap (λ (x : List ℕ). shownText part24 (outcome answer s) ++ (x ++ newline)) (answered answer k (imageText s))) (wrote-both told (wrote-both image ended))
+      wrote-as (ap (λ (x : List ℕ). shownText p (outcome answer s) ++ (x ++ newline)) (answered answer k (imageText s))) (wrote-both told (wrote-both image ended))
 
-  pub line-refused : {n : ℕ} → answer ≡ Refused n → Wrote middle end newline last left → Wrote out at (probeLine (outcome answer s)) last left
+  pub line-refused : {n : ℕ} → answer ≡ Refused n → Wrote middle end newline last left → Wrote out at (probeLine p (outcome answer s)) last left
   unfolding probeLine
   line-refused e ended =
-      wrote-as (ap (λ (a : Answer). shownText part24 (outcome answer s) ++ (unlessRefused a (imageText s) ++ newline)) (sym e)) (wrote-both told ended)
+      wrote-as (ap (λ (a : Answer). shownText p (outcome answer s) ++ (unlessRefused a (imageText s) ++ newline)) (sym e)) (wrote-both told ended)

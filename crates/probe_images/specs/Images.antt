@@ -1,10 +1,10 @@
--- State images as text: what a line of the probe program says, and the line that answers it. Lines are given without their newline.
+-- State images as text: what a line of a probe program says, and the line that answers it, for either part. Lines are given without their newline.
 use mathlib.Core.Bool.{cond}
 use mathlib.Core.List.{List, [], _∷_, _++_}
 use Prim.Native.Nat.{ℕ}
 use lib.ListN.{drop}
 use Rattle.pins.specs.declared.Sets.{Sets}
-use Rattle.map.specs.Map.{part24}
+use Rattle.map.specs.Map.{Part}
 use Rattle.registers.specs.Registers.{core}
 use Rattle.registers.specs.Interrupt.{interrupt}
 use Rattle.device_rules.specs.Device.{State, Outcome, state}
@@ -37,9 +37,9 @@ imageText s =
 
 -- ---- the answer
 -- as a trace tells the event; then the image after it, which no refusal has, and the newline
-unfoldable pub probeLine : Outcome → List ℕ
-probeLine o = shownText part24 o ++ (unlessRefused (o .answer) (imageText (o .after)) ++ newline)
+unfoldable pub probeLine : Part → Outcome → List ℕ
+probeLine p o = shownText p o ++ (unlessRefused (o .answer) (imageText (o .after)) ++ newline)
 
--- One step on the image that a line says; refusal 7 where it is not readable.
-unfoldable pub probeText : (line : List ℕ) → List ℕ
-probeText line = cond (readable line) (probeLine (stepped part24 (imageIn line) (kindIn line) (argumentIn line))) (refusedLine 7)
+-- One step of the part on the image that a line says; refusal 7 where it is not readable.
+unfoldable pub probeText : Part → (line : List ℕ) → List ℕ
+probeText p line = cond (readable line) (probeLine p (stepped p (imageIn line) (kindIn line) (argumentIn line))) (refusedLine 7)

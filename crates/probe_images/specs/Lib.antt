@@ -1,2 +1,3 @@
+pub mod Asked
 pub mod Images
 pub mod Begun

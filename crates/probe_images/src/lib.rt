@@ -1,32 +1,32 @@
-// State images as text: see specs/ for what a line says and what it is answered.
-// The step that a line of the probe program asks, on the image that it says.
+// State images as text, of either part: see specs/ for what a line says and what it is answered.
+// The step that a line of a probe program asks, on the image that it says.
 // The text of a step on an image: its answer, and the image after it.
-// A line of the probe program answered, whole or as it comes in pieces.
+// A line of a probe program answered, whole or as it comes in pieces.
 ghost use mathlib.Core.Path.{_≡_};
 ghost use lib.ListN.{length};
-ghost use Rattle.map.specs.Map.{part24};
+ghost use Rattle.map.specs.Map.{partOf};
 ghost use Rattle.device_rules.specs.Device.{out as outcome};
-ghost use Rattle.device_rules.specs.Refusals.{stepped, imageFits};
-ghost use Rattle.device.specs.Held.{stateIn};
-ghost use Rattle.probe_images.specs.Images.{imageIn, kindIn, argumentIn, imageText, probeLine, probeText};
+ghost use Rattle.device_rules.specs.Refusals.{stepped};
+ghost use Rattle.device.specs.Held.{stateIn, fitsIn};
+ghost use Rattle.probe_images.specs.Images.{imageIn, imageText, probeLine, probeText};
 ghost use mathlib.Core.Bool.{true};
-ghost use Prim.Native.Nat.{_+_, _≤_, ℕ};
+ghost use Prim.Native.Nat.{_+_, _≤_, _<_, ℕ};
 ghost use Rattle.device_rules.specs.Answers.{refusalNumber};
 ghost use Rattle.text.specs.Text.{Wrote};
 ghost use Rattle.text_answers.specs.Answers.{shownText};
 ghost use mathlib.Core.List.{List, [], _++_};
 ghost use Rattle.probe_images.specs.Begun.{Holds};
+ghost use Rattle.probe_images.specs.Asked.{Answers};
 use device::Device;
 use device::Stepped;
 use device_rules::Answer;
 use device_rules::UNREADABLE;
-use map::PINS24;
 use pins::Sets;
 
-// The device whose image the line says.
-pub fn device_in(line: &[u8]) -> Device
+// The device of the part whose image the line says.
+pub fn device_in(part: u8, line: &[u8]) -> Device
     requires { ⌜ length (now line) ≡ 379 ⌝ }
-    ensures { λ d. ⌜ stateIn d ≡ imageIn (now (line .entry)) ⌝ }
+    ensures { λ d. ⌜ (stateIn d ≡ imageIn (now (line .entry))) × (d .part ≡ part) ⌝ }
 {
     let sets = Sets {
         level: probe_fields::word_at(line, probe_fields::LEVEL_AT),
@@ -35,6 +35,7 @@ pub fn device_in(line: &[u8]) -> Device
         edge: probe_fields::word_at(line, probe_fields::EDGE_AT),
     };
     Device {
+        part,
         file: probe_fields::file_in(line),
         sets,
         pointer: probe_fields::byte_at(line, probe_fields::POINTER_AT),
@@ -46,11 +47,11 @@ pub fn device_in(line: &[u8]) -> Device
 }
 
 // The step that the line asks.
-pub fn step_in(line: &[u8]) -> Stepped
-    requires { ⌜ length (now line) ≡ 379 ⌝ }
-    ensures { λ s. ⌜ outcome (s .answer) (stateIn (s .device)) ≡ stepped part24 (imageIn (now (line .entry))) (kindIn (now (line .entry))) (argumentIn (now (line .entry))) ⌝ }
+pub fn step_in(part: u8, line: &[u8]) -> Stepped
+    requires { ⌜ (part < 2) × (length (now line) ≡ 379) ⌝ }
+    ensures { λ s. ⌜ Answers part (now (line .entry)) s ⌝ }
 {
-    let device = device_in(line);
+    let device = device_in(part, line);
     let kind = probe_fields::kind_in(line);
     let arg = probe_fields::word_at(line, probe_fields::ARGUMENT_AT);
     device.step(kind, arg)
@@ -72,9 +73,10 @@ fn put_image(out: &mut [u8], at: usize, d: Device) -> usize
 
 // The text with which a trace tells an answer. A refusal's shows nothing of the device, whose image may be a broken one.
 fn put_answer(out: &mut [u8], at: usize, d: Device, answer: Answer) -> usize
-    requires { ⌜ (refusalNumber answer ≡ 0 → imageFits part24 (stateIn d) ≡ true) × (at + 25 ≤ length (now out)) ⌝ }
-    ensures { λ r. ⌜ Wrote (now (out .entry)) at (shownText part24 (outcome answer (stateIn d))) r (now (out .exit)) × (r ≤ at + 19) ⌝ }
+    requires { ⌜ (refusalNumber answer ≡ 0 → fitsIn d ≡ true) × (at + 25 ≤ length (now out)) ⌝ }
+    ensures { λ r. ⌜ Wrote (now (out .entry)) at (shownText (partOf (d .part)) (outcome answer (stateIn d))) r (now (out .exit)) × (r ≤ at + 25) ⌝ }
 {
+    let part = d.part as u64;
     let file = d.file;
     let pointer = d.pointer as u64;
     let bus = d.bus as u64;
@@ -83,7 +85,7 @@ fn put_answer(out: &mut [u8], at: usize, d: Device, answer: Answer) -> usize
     let mut words = [0u64; 28];
     let _fits = words_images::pack(
         &mut words,
-        0,
+        part,
         &file,
         d.sets,
         pointer,
@@ -93,15 +95,15 @@ fn put_answer(out: &mut [u8], at: usize, d: Device, answer: Answer) -> usize
         line,
     );
     let int = words_views::int(&words);
-    let low = words_views::low(&words, PINS24);
+    let low = words_views::low(&words, map::pins_of(part));
     let high = words_views::high(&words);
-    text_answers::put_answer(out, at, 0, answer, int, low, high)
+    text_answers::put_answer(out, at, part, answer, int, low, high)
 }
 
 // The answer, and behind it the image after the step; a refusal has no image.
 pub fn put_outcome(out: &mut [u8], at: usize, d: Device, answer: Answer) -> usize
-    requires { ⌜ (refusalNumber answer ≡ 0 → imageFits part24 (stateIn d) ≡ true) × (at + 380 ≤ length (now out)) ⌝ }
-    ensures { λ r. ⌜ Wrote (now (out .entry)) at (probeLine (outcome answer (stateIn d))) r (now (out .exit)) × (r ≤ at + 380) ⌝ }
+    requires { ⌜ (refusalNumber answer ≡ 0 → fitsIn d ≡ true) × (at + 380 ≤ length (now out)) ⌝ }
+    ensures { λ r. ⌜ Wrote (now (out .entry)) at (probeLine (partOf (d .part)) (outcome answer (stateIn d))) r (now (out .exit)) × (r ≤ at + 380) ⌝ }
 {
     let told = put_answer(out, at, d, answer);
     let Answer::Refused(_) = answer else {
@@ -112,14 +114,14 @@ pub fn put_outcome(out: &mut [u8], at: usize, d: Device, answer: Answer) -> usiz
 }
 
 // One line, without its newline: its answer is written from at on.
-pub fn answer_line(line: &[u8], out: &mut [u8], at: usize) -> usize
-    requires { ⌜ at + 380 ≤ length (now out) ⌝ }
-    ensures { λ r. ⌜ Wrote (now (out .entry)) at (probeText (now (line .entry))) r (now (out .exit)) × (r ≤ at + 380) ⌝ }
+pub fn answer_line(part: u8, line: &[u8], out: &mut [u8], at: usize) -> usize
+    requires { ⌜ (part < 2) × (at + 380 ≤ length (now out)) ⌝ }
+    ensures { λ r. ⌜ Wrote (now (out .entry)) at (probeText (partOf part) (now (line .entry))) r (now (out .exit)) × (r ≤ at + 380) ⌝ }
 {
     if !probe_fields::is_readable(line) {
         return text_answers::put_refused(out, at, UNREADABLE);
     }
-    let s = step_in(line);
+    let s = step_in(part, line);
     let answer = s.answer;
     let after = s.device;
     put_outcome(out, at, after, answer)
@@ -152,11 +154,11 @@ pub fn grow(line: Line, part: &[u8]) -> Line
 }
 
 // The whole line's answer, written from at on.
-pub fn answer(line: Line, out: &mut [u8], at: usize) -> usize
-    requires { ⌜ (line .len ≤ 380) × (at + 380 ≤ length (now out)) ⌝ }
-    ensures { λ r. ⌜ ((text : List ℕ) → Holds line text → Wrote (now (out .entry)) at (probeText text) r (now (out .exit))) × (r ≤ at + 380) ⌝ }
+pub fn answer(part: u8, line: Line, out: &mut [u8], at: usize) -> usize
+    requires { ⌜ (part < 2) × (line .len ≤ 380) × (at + 380 ≤ length (now out)) ⌝ }
+    ensures { λ r. ⌜ ((text : List ℕ) → Holds line text → Wrote (now (out .entry)) at (probeText (partOf part) text) r (now (out .exit))) × (r ≤ at + 380) ⌝ }
 {
     let held = line.held;
     let len = line.len;
-    answer_line(&held[0..len], out, at)
+    answer_line(part, &held[0..len], out, at)
 }

@@ -11,14 +11,14 @@ part-answer-line-end : tie.Need-part-answer-line-end
 part-answer-line-end c =
     let s = c .before .before .before in
     let all : length (s .args .line .held) ≡ 380 = search needs in
-    omega (arith, all, s .pre .0)
+    omega (arith, all, s .pre .1)
 
 returns : tie.Need-returns
 returns c =
     let p = c .before .before in
     let held = p .before .before .before in
     let s = held .before .before .before in
-    (held-answer (s .args .line) (p .answer-line .ensures .0), p .answer-line .ensures .1)
+    (held-answer _ (s .args .line) (p .answer-line .ensures .0), p .answer-line .ensures .1)
 
 pub answer-spec : {M : Type 1} → statement M
 answer-spec =

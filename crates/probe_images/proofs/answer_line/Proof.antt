@@ -16,20 +16,20 @@ returns c =
     let p = c .before .before in
     let t = p .before .before in
     let w = p .put-refused .ensures in
-    (wrote-as (unreadable-text _ (t .before .is-readable .ensures) (not-true _ (t .if1 .taken))) w, omega (arith, w .ends, refused-short 7))
+    (wrote-as (unreadable-text (t .before .before .before .before .args .part) _ (t .before .is-readable .ensures) (not-true _ (t .if1 .taken))) w, omega (arith, w .ends, refused-short 7))
 
 step-in-requires : tie.Need-step-in-requires
-step-in-requires c κs = readable-long _ (sym (c .before .is-readable .ensures) ∙ not-false _ (c .if1 .left))
+step-in-requires c κs = (search needs, readable-long _ (sym (c .before .is-readable .ensures) ∙ not-false _ (c .if1 .left)))
 
 put-outcome-requires : tie.Need-put-outcome-requires
-put-outcome-requires c κs = (step-fits _ (c .before .before .step-in .ensures), search needs)
+put-outcome-requires c κs = (step-fits _ (search needs) _ (c .before .before .step-in .ensures), search needs)
 
 returns-2 : tie.Need-returns-2
 returns-2 c =
     let p = c .before .before in
     let s = p .before .before .before in
     let e = s .before in (
-      wrote-as (probed-text _ (e .before .is-readable .ensures) (not-false _ (e .if1 .left)) (s .step-in .ensures)) (p .put-outcome .ensures .0),
+      wrote-as (probed-text _ _ (e .before .is-readable .ensures) (not-false _ (e .if1 .left)) (s .step-in .ensures)) (p .put-outcome .ensures .0),
       search needs,
     )
 

@@ -1,22 +1,22 @@
--- `probe::main`: the line that has begun stays within its memory; it ends after as many turns as a number has. Assumes nothing.
+-- `probe_program::run`: the line that has begun stays within its memory; it ends after as many turns as a number has. Assumes nothing.
 use borrow.Author.Needs.{needs}
 use mathlib.Core.Path.{_≡_}
 use Prim.Native.Nat.{ℕ, _≤_}
 use lib.ListN.{length, length-replicate}
-use Rattle.probe.proofs.main.Statement.{statement}
-use Rattle.probe.proofs.main.Tie as tie
+use Rattle.probe_program.proofs.run.Statement.{statement}
+use Rattle.probe_program.proofs.run.Tie as tie
 
 abbrev Inv-loop : tie.InvT-loop
-Inv-loop piece₀ out₀ line₀ turns₀ piece out line turns = (length piece ≡ 16384) × (length out ≡ 65536) × (line .len ≤ 380)
+Inv-loop part piece₀ out₀ line₀ turns₀ piece out line turns = (length piece ≡ 16384) × (length out ≡ 65536) × (line .len ≤ 380)
 
 abbrev μ-loop : tie.MeasureT-loop
-μ-loop piece₀ out₀ line₀ turns₀ piece out line turns = turns
+μ-loop part piece₀ out₀ line₀ turns₀ piece out line turns = turns
 
 loop-holds : tie.Need-loop-holds Inv-loop μ-loop
 loop-holds c = (length-replicate {A = ℕ} 16384 0, length-replicate {A = ℕ} 65536 0, c .begin .ensures .small)
 
-pub main-spec : {M : Type 1} → statement M
-main-spec =
+pub run-spec : {M : Type 1} → statement M
+run-spec =
     tie.close
     (tie.spec
     Inv-loop

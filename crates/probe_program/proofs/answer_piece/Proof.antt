@@ -1,17 +1,17 @@
--- `probe::answer_piece`: each turn takes a line off the piece, with its newline where that is there. Assumes nothing.
+-- `probe_program::answer_piece`: each turn takes a line off the piece, with its newline where that is there. Assumes nothing.
 use borrow.Author.Needs.{needs}
 use mathlib.Core.Path.{_≡_}
 use Prim.Native.Nat.{_≤_}
 use lib.ListN.{length}
 use Rattle.text_pieces.proofs.Laws.{rest-less}
-use Rattle.probe.proofs.answer_piece.Statement.{statement}
-use Rattle.probe.proofs.answer_piece.Tie as tie
+use Rattle.probe_program.proofs.answer_piece.Statement.{statement}
+use Rattle.probe_program.proofs.answer_piece.Tie as tie
 
 abbrev Inv-loop : tie.InvT-loop
-Inv-loop piece out₀ begun₀ rest₀ end₀ out begun rest end = (length out ≡ length out₀) × (length rest ≤ length piece) × (end ≤ 65536) × (begun .len ≤ 380)
+Inv-loop part piece out₀ begun₀ rest₀ end₀ out begun rest end = (length out ≡ length out₀) × (length rest ≤ length piece) × (end ≤ 65536) × (begun .len ≤ 380)
 
 abbrev μ-loop : tie.MeasureT-loop
-μ-loop piece out₀ begun₀ rest₀ end₀ out begun rest end = length rest
+μ-loop part piece out₀ begun₀ rest₀ end₀ out begun rest end = length rest
 
 pub answer-piece-spec : {M : Type 1} → statement M
 answer-piece-spec =
