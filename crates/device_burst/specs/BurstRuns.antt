@@ -2,7 +2,7 @@
 use mathlib.Core.Bool.{cond}
 use mathlib.Core.List.{List, [], _∷_, _++_}
 use mathlib.Core.Path.{_≡_}
-use Prim.Native.Nat.{ℕ}
+use Prim.Native.Nat.{ℕ, _/_, _%_, _^_}
 use lib.Dec.{eqb}
 use lib.ListN.{length, getD, take}
 use Rattle.map.specs.Map.{Part}
@@ -11,12 +11,15 @@ use Rattle.device_rules.specs.Answers.{answerKind, refusalNumber}
 use Rattle.device_rules.specs.declared.Answer.{Answer}
 use Rattle.device_rules.specs.declared.Answer.the-variants.{Nothing}
 use Rattle.device_demands.specs.Run.{Asked, after}
-use Rattle.words_burst.specs.Burst.{Sent, sent, Ran, twoOf}
+use Rattle.words_burst.specs.Burst.{Sent, sent, halved, Ran, twoOf}
 
--- events as they are sent: the third word 0
-unfoldable pub sentAs : List Asked → List Sent
-sentAs [] = []
-sentAs (e ∷ es) = sent (e .kind) (e .arg) 0 ∷ sentAs es
+-- an event as it is sent: its argument in two halves where the part takes both, else the third word 0
+abbrev pub asSent : Part → Asked → Sent
+asSent p e = cond (halved p) (sent (e .kind) (e .arg % 2 ^ 32) (e .arg / 2 ^ 32)) (sent (e .kind) (e .arg) 0)
+
+unfoldable pub sentAs : Part → List Asked → List Sent
+sentAs p [] = []
+sentAs p (e ∷ es) = asSent p e ∷ sentAs p es
 
 -- the answers before the first refusal
 unfoldable pub untilRefused : List Answer → List Answer

@@ -187,8 +187,8 @@ pub extern "C" fn ghixramel_burst(
     answers: &mut [u8],
     done: &mut [u64; 1],
 ) -> u32
-    ensures { λ r. ⌜ Bursts (now (words .entry)) (now (events .entry)) asked r (now (words .exit)) (now (answers .entry)) (now (answers .exit))
+    ensures { λ r. ⌜ Bursts 0 (now (words .entry)) (now (events .entry)) asked r (now (words .exit)) (now (answers .entry)) (now (answers .exit))
         (now (done .entry)) (now (done .exit)) ⌝ }
 {
-    words_burst::burst24(words, events, asked, answers, done)
+    words_burst::burst(words, 0, events, asked, answers, done)
 }

@@ -9,7 +9,7 @@ use borrow.Author.Tests.{eq-eqb, ne-eqb, ltb-false}
 use lib.Dec.{eqb, ltb}
 use lib.ListN.{length}
 use Rattle.bits.proofs.Decide.{clash}
-use Rattle.map.specs.Map.{part24}
+use Rattle.map.specs.Map.{partOf}
 use Rattle.words_bus.specs.Packed.{stateIn, Packed}
 use Rattle.words_burst.specs.Burst.{sentOf, ran, eight, Left, Bursts}
 
@@ -31,30 +31,30 @@ enough bytes asked room h =
     rest : (ltb (bytes / 12) asked || (ltb 512 asked || ltb room (2 * asked))) ≡ false
     rest = or-right (not (eqb (bytes % 12) 0)) _ h
 
-module _ (w bytes : List ℕ) (asked : ℕ) (answers done : List ℕ) where
-  pub bad : eight (length bytes) asked (length answers) ≡ true → Bursts w bytes asked 8 w answers answers done done
+module _ (c : ℕ) (w bytes : List ℕ) (asked : ℕ) (answers done : List ℕ) where
+  pub bad : eight (length bytes) asked (length answers) ≡ true → Bursts c w bytes asked 8 w answers answers done done
   bad e = record { eighth = λ h. (refl, refl, refl, refl); taken = λ h. clash _ e h; broken = λ h. clash _ e h }
 
   module _ (e : eight (length bytes) asked (length answers) ≡ false) where
-    pub nothing : asked ≡ 0 → Bursts w bytes asked 0 w answers answers done (0 ∷ [])
+    pub nothing : asked ≡ 0 → Bursts c w bytes asked 0 w answers answers done (0 ∷ [])
     unfolding ran sentOf
     nothing z = record {
       eighth = λ h. clash _ h e;
-      taken = λ h k. subst (λ (n : ℕ). Left (ran part24 (stateIn part24 w) (sentOf bytes 0 n)) 0 w answers answers (0 ∷ [])) (sym z) (none k);
+      taken = λ h k. subst (λ (n : ℕ). Left c (ran (partOf c) (stateIn (partOf c) w) (sentOf bytes 0 n)) 0 w answers answers (0 ∷ [])) (sym z) (none k);
       broken = λ h y. (ap (λ (t : Bool). cond {A = ℕ} t 0 3) (sym (eq-eqb asked 0 z)), refl, refl, refl);
     }
       where
-        none : Packed 0 w → Left (ran part24 (stateIn part24 w) (sentOf bytes 0 0)) 0 w answers answers (0 ∷ [])
+        none : Packed c w → Left c (ran (partOf c) (stateIn (partOf c) w) (sentOf bytes 0 0)) 0 w answers answers (0 ∷ [])
         none k = record { number-is = refl; packed = k; after = refl; told = refl; counted = refl }
 
     module _ (some : asked ≡ 0 → ⊥) where
-      pub no-image : (Packed 0 w → ⊥) → Bursts w bytes asked 3 w answers answers done (0 ∷ [])
+      pub no-image : (Packed c w → ⊥) → Bursts c w bytes asked 3 w answers answers done (0 ∷ [])
       no-image z = record {
         eighth = λ h. clash _ h e;
         taken = λ h k. absurd (z k);
         broken = λ h y. (ap (λ (t : Bool). cond {A = ℕ} t 0 3) (sym (ne-eqb asked 0 some)), refl, refl, refl);
       }
 
-      pub image : Packed 0 w → {n : ℕ} {w' answers' done' : List ℕ} → Left (ran part24 (stateIn part24 w) (sentOf bytes 0 asked)) n w' answers answers' done'
-          → Bursts w bytes asked n w' answers answers' done done'
+      pub image : Packed c w → {n : ℕ} {w' answers' done' : List ℕ} → Left c (ran (partOf c) (stateIn (partOf c) w) (sentOf bytes 0 asked)) n w' answers answers' done'
+          → Bursts c w bytes asked n w' answers answers' done done'
       image k l = record { eighth = λ h. clash _ h e; taken = λ h k. l; broken = λ h z. absurd (z k) }

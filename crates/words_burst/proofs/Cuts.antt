@@ -1,6 +1,6 @@
 -- However events are cut into bursts, the bursts one after another do what one burst of them all does. Assumes nothing.
 use mathlib.Core.Path.{_≡_, refl, sym, ap, ap₂, _∙_}
-use mathlib.Core.Bool.{Bool, true, false, cond, not}
+use mathlib.Core.Bool.{Bool, true, false, cond, not, _||_}
 use mathlib.Core.List.{List, [], _∷_, _++_}
 use Prim.Native.Nat.{ℕ, zero, suc, _+_, _*_, _<_}
 use native.Mathlib.Omega.{arith}
@@ -15,7 +15,7 @@ use Rattle.device_rules.specs.Device.Event.{Start, Stop, HardwareReset, ByteSen
 use Rattle.device_rules.specs.Refusals.{imageFits, eventOf, refusal, stepped}
 use Rattle.device_rules.specs.Answers.{answerKind, refusalNumber}
 use Rattle.device_rules.specs.declared.Answer.the-variants.{Refused}
-use Rattle.words_burst.specs.Burst.{Sent, wordAt, eventAt, sentOf, one, Ran, ended, onto, twoOf, ran}
+use Rattle.words_burst.specs.Burst.{Sent, wordAt, eventAt, sentOf, halved, wholeOf, one, Ran, ended, onto, twoOf, ran}
 use Rattle.words_burst.specs.Cuts.{andThen, ranAll, allOf}
 use Rattle.words_burst.proofs.Running.{onto-onto, onto-none}
 
@@ -65,7 +65,7 @@ module _ (p : Part) (s : State) where
 
   one-clear : (e : Sent) → Clear (one p s e)
   unfolding one
-  one-clear e = either-arm Clear (eqb (e .third) 0) (stepped-clear (e .kind) (e .arg)) (some (imageFits p s) (leb (e .kind) 5))
+  one-clear e = either-arm Clear (eqb (e .third) 0 || halved p) (stepped-clear (e .kind) (wholeOf e)) (some (imageFits p s) (leb (e .kind) 5))
     where
       some : (i k : Bool) → Clear (out (Refused (cond i (cond k 2 1) 3)) s)
       some true true = refl

@@ -1,11 +1,13 @@
 -- One event with its third word, on words. Assumes nothing.
-use mathlib.Core.Path.{_≡_, refl, sym, ap, _∙_}
-use mathlib.Core.Bool.{Bool, true, false, cond}
+use mathlib.Core.Path.{_≡_, refl, sym, ap, ap₂, _∙_}
+use mathlib.Core.Bool.{Bool, true, false, cond, _||_}
 use mathlib.Core.List.{List}
-use Prim.Native.Nat.{ℕ}
-use borrow.Author.Tests.{eq-eqb, ne-eqb}
-use lib.Dec.{eqb, leb}
-use Rattle.map.specs.Map.{Part, part24}
+use Prim.Native.Nat.{ℕ, zero, suc, _-_, _^_, _≤_, _<_}
+use native.Mathlib.Omega.{arith}
+use borrow.Author.Tests.{eq-eqb, ne-eqb, lt-ltb, le-ltb}
+use lib.Dec.{eqb, ltb, leb}
+use lib.ListN.{getD}
+use Rattle.map.specs.Map.{Part, partOf}
 use Rattle.device_rules.specs.Device.{State, Outcome, out}
 use Rattle.device_rules.specs.Refusals.{imageFits, stepped}
 use Rattle.device_rules.specs.declared.Answer.{Answer}
@@ -13,30 +15,58 @@ use Rattle.device_rules.specs.declared.Answer.the-variants.{Refused}
 use Rattle.words_bus.specs.Packed.{stateIn, Packed, Leaves}
 use Rattle.words_bus.proofs.Judging.{image-fits, image}
 use Rattle.words_bus.proofs.Left.{left-same, by-rule}
-use Rattle.words_burst.specs.Burst.{Sent, one}
+use Rattle.words_burst.specs.Burst.{Sent, halved, wholeOf, one}
 
--- by whether the third word is 0
-by-third : (p : Part) (s : State) (e : Sent) (t : Bool) → eqb (e .third) 0 ≡ t
-    → one p s e ≡ cond t (stepped p s (e .kind) (e .arg)) (out (Refused (cond (imageFits p s) (cond (leb (e .kind) 5) 2 1) 3)) s)
-unfolding one
-by-third p s e t h =
-    ap (λ (t : Bool). cond t (stepped p s (e .kind) (e .arg)) (out (Refused (cond (imageFits p s) (cond (leb (e .kind) 5) 2 1) 3)) s)) h
+-- pins past the lower half of an argument are those of a part that takes the upper half
+by-pins : (c pins : ℕ) → pins ≡ 2 ^ partOf c .width - 1 → ltb 0xffff_ffff pins ≡ halved (partOf c)
+by-pins zero pins e = ap (ltb 0xffff_ffff) e
+by-pins (suc c) pins e = ap (ltb 0xffff_ffff) e
 
-module _ (w : List ℕ) (k : Packed 0 w) (e : Sent) where
-  pub plain : e .third ≡ 0 → {w' : List ℕ} {a : Answer} → Leaves 0 w' a (stepped part24 (stateIn part24 w) (e .kind) (e .arg))
-      → Leaves 0 w' a (one part24 (stateIn part24 w) e)
-  plain h l = by-rule l (sym (by-third part24 (stateIn part24 w) e true (eq-eqb (e .third) 0 h)))
+pub or-true : (a : Bool) → (a || true) ≡ true
+or-true true = refl
+or-true false = refl
 
-  pub not-plain : (e .third ≡ 0 → ⊥) → (t : Bool) → leb (e .kind) 5 ≡ t → Leaves 0 w (Refused (cond t 2 1)) (one part24 (stateIn part24 w) e)
-  not-plain h t b = left-same 0 w k (Refused (cond t 2 1))
-      (ap (λ (t : Bool). out (Refused (cond t 2 1)) (stateIn part24 w)) (sym b)
-      ∙ ap (λ (i : Bool). out (Refused (cond i (cond (leb (e .kind) 5) 2 1) 3)) (stateIn part24 w)) (sym (image-fits 0 w k))
-      ∙ sym (by-third part24 (stateIn part24 w) e false (ne-eqb (e .third) 0 h)))
+module _ (c : ℕ) (w : List ℕ) (k : Packed c w) (e : Sent) where
+  abbrev p : Part
+  p = partOf c
+
+  abbrev s : State
+  s = stateIn p w
+
+  abbrev Refuses : Outcome
+  Refuses = out (Refused (cond (imageFits p s) (cond (leb (e .kind) 5) 2 1) 3)) s
+
+  -- by whether the third word may stand
+  by-third : (t : Bool) → (eqb (e .third) 0 || halved p) ≡ t → one p s e ≡ cond t (stepped p s (e .kind) (wholeOf e)) Refuses
+  unfolding one
+  by-third t h = ap (λ (t : Bool). cond t (stepped p s (e .kind) (wholeOf e)) Refuses) h
+
+  pub plain : e .third ≡ 0 → {w' : List ℕ} {a : Answer} → Leaves c w' a (stepped p s (e .kind) (e .arg)) → Leaves c w' a (one p s e)
+  plain h l =
+      let same : e .arg ≡ wholeOf e = omega (arith, h) in
+      by-rule l (ap (stepped p s (e .kind)) same ∙ sym (by-third true (ap (λ (t : Bool). t || halved p) (eq-eqb (e .third) 0 h))))
+
+  module _ (pins : ℕ) (are : pins ≡ 2 ^ partOf (getD w 27 0) .width - 1) where
+    by-width : ltb 0xffff_ffff pins ≡ halved p
+    by-width = by-pins c pins (are ∙ ap (λ (c : ℕ). 2 ^ partOf c .width - 1) (k .part-is))
+
+    pub upper : 0xffff_ffff < pins → {w' : List ℕ} {a : Answer} → Leaves c w' a (stepped p s (e .kind) (wholeOf e)) → Leaves c w' a (one p s e)
+    upper h l =
+        let more : halved p ≡ true = sym by-width ∙ lt-ltb 0xffff_ffff pins h in
+        by-rule l (sym (by-third true (ap (λ (t : Bool). eqb (e .third) 0 || t) more ∙ or-true (eqb (e .third) 0))))
+
+    pub not-plain : (e .third ≡ 0 → ⊥) → pins ≤ 0xffff_ffff → (t : Bool) → leb (e .kind) 5 ≡ t → Leaves c w (Refused (cond t 2 1)) (one p s e)
+    not-plain h few t b =
+        let no : halved p ≡ false = sym by-width ∙ le-ltb 0xffff_ffff pins few in
+        left-same c w k (Refused (cond t 2 1))
+        (ap (λ (t : Bool). out (Refused (cond t 2 1)) s) (sym b)
+        ∙ ap (λ (i : Bool). out (Refused (cond i (cond (leb (e .kind) 5) 2 1) 3)) s) (sym (image-fits c w k))
+        ∙ sym (by-third false (ap₂ (λ (a b : Bool). a || b) (ne-eqb (e .third) 0 h) no)))
 
   -- refused, the state stays
-  pub refused-same : {w' : List ℕ} {n : ℕ} → Leaves 0 w' (Refused n) (one part24 (stateIn part24 w) e) → stateIn part24 w' ≡ stateIn part24 w
-  refused-same {w'} {n} l = go (eqb (e .third) 0) refl
+  pub refused-same : {w' : List ℕ} {n : ℕ} → Leaves c w' (Refused n) (one p s e) → stateIn (partOf c) w' ≡ s
+  refused-same {w'} {n} l = go (eqb (e .third) 0 || halved p) refl
     where
-      go : (t : Bool) → eqb (e .third) 0 ≡ t → stateIn part24 w' ≡ stateIn part24 w
-      go true h = ap (stateIn part24) (image 0 w (e .kind) (e .arg) k (by-rule l (by-third part24 (stateIn part24 w) e true h)) .refused n refl)
-      go false h = ap (λ (o : Outcome). o .after) (l .outcome ∙ by-third part24 (stateIn part24 w) e false h)
+      go : (t : Bool) → (eqb (e .third) 0 || halved p) ≡ t → stateIn (partOf c) w' ≡ s
+      go true h = ap (stateIn (partOf c)) (image c w (e .kind) (wholeOf e) k (by-rule l (by-third true h)) .refused n refl)
+      go false h = ap (λ (o : Outcome). o .after) (l .outcome ∙ by-third false h)

@@ -11,7 +11,7 @@ use denote.Enum.Declared.{tagOf}
 use lib.Dec.{eqb}
 use lib.ListN.{length, set, take, drop, length-set, take-append-drop}
 use lib.Seq.{take-suc-set, drop-set-lt, drop-drop, length-take-le}
-use Rattle.map.specs.Map.{Part, part24}
+use Rattle.map.specs.Map.{Part, partOf}
 use Rattle.device_rules.specs.Device.{State, Outcome, out}
 use Rattle.device_rules.specs.Answers.{answerKind, answerByte}
 use Rattle.device_rules.proofs.Answer.{the-type}
@@ -78,25 +78,25 @@ drop-more : (n : ℕ) (l m : List ℕ) → drop n l ≡ drop n m → drop (n + 2
 drop-more n l m h = sym (drop-drop 2 n l) ∙ ap (drop 2) h ∙ drop-drop 2 n m
 
 -- ---- the loop
-module _ (w₀ bytes : List ℕ) (asked : ℕ) (answers₀ : List ℕ) where
+module _ (c : ℕ) (w₀ bytes : List ℕ) (asked : ℕ) (answers₀ : List ℕ) where
   abbrev pub whole : Ran
-  whole = ran part24 (stateIn part24 w₀) (sentOf bytes 0 asked)
+  whole = ran (partOf c) (stateIn (partOf c) w₀) (sentOf bytes 0 asked)
 
   -- the invariant
   pub record Running (w answers : List ℕ) (i : ℕ) : Type 0 where
     pub below : i ≤ asked
-    pub packed : Packed 0 w
+    pub packed : Packed c w
     pub room : length answers ≡ length answers₀
     pub past : drop (2 * i) answers ≡ drop (2 * i) answers₀
-    pub rest : whole ≡ onto i (take (2 * i) answers) (ran part24 (stateIn part24 w) (sentOf bytes i (asked - i)))
+    pub rest : whole ≡ onto i (take (2 * i) answers) (ran (partOf c) (stateIn (partOf c) w) (sentOf bytes i (asked - i)))
 
-  pub begin : Packed 0 w₀ → Running w₀ answers₀ 0
+  pub begin : Packed c w₀ → Running w₀ answers₀ 0
   begin k = record {
     below = omega arith;
     packed = k;
     room = refl;
     past = refl;
-    rest = onto-none whole ∙ ap (λ (n : ℕ). onto 0 [] (ran part24 (stateIn part24 w₀) (sentOf bytes 0 n))) all;
+    rest = onto-none whole ∙ ap (λ (n : ℕ). onto 0 [] (ran (partOf c) (stateIn (partOf c) w₀) (sentOf bytes 0 n))) all;
   }
     where
       all : asked ≡ asked - 0
@@ -110,7 +110,7 @@ module _ (w₀ bytes : List ℕ) (asked : ℕ) (answers₀ : List ℕ) where
         one-more : asked - i ≡ suc (asked - suc i)
         one-more = omega arith
 
-    pub turn : i < asked → {w' : List ℕ} {a : Answer} → Leaves 0 w' a (one part24 (stateIn part24 w) (eventAt bytes i)) → eqb (answerKind a) 4 ≡ false
+    pub turn : i < asked → {w' : List ℕ} {a : Answer} → Leaves c w' a (one (partOf c) (stateIn (partOf c) w) (eventAt bytes i)) → eqb (answerKind a) 4 ≡ false
         → Running w' (set (set answers (2 * i) (answerKind a)) (2 * i + 1) (answerByte a)) (i + 1)
     turn h {w'} {a} l k = record {
       below = omega arith;
@@ -118,10 +118,10 @@ module _ (w₀ bytes : List ℕ) (asked : ℕ) (answers₀ : List ℕ) where
       room = simp length-set (d .room);
       past = rw two (two-past answers (2 * i) (answerKind a) (answerByte a) fits ∙ drop-more (2 * i) answers answers₀ (d .past));
       rest = d .rest
-          ∙ ap (λ (es : List Sent). onto i (take (2 * i) answers) (ran part24 (stateIn part24 w) es)) (first h)
-          ∙ ap (onto i (take (2 * i) answers)) (ran-on part24 (stateIn part24 w) (eventAt bytes i) later (l .outcome) k)
-          ∙ onto-onto i 1 (take (2 * i) answers) (twoOf a) (ran part24 (stateIn part24 w') later)
-          ∙ ap (λ (t : List ℕ). onto (i + 1) t (ran part24 (stateIn part24 w') later))
+          ∙ ap (λ (es : List Sent). onto i (take (2 * i) answers) (ran (partOf c) (stateIn (partOf c) w) es)) (first h)
+          ∙ ap (onto i (take (2 * i) answers)) (ran-on (partOf c) (stateIn (partOf c) w) (eventAt bytes i) later (l .outcome) k)
+          ∙ onto-onto i 1 (take (2 * i) answers) (twoOf a) (ran (partOf c) (stateIn (partOf c) w') later)
+          ∙ ap (λ (t : List ℕ). onto (i + 1) t (ran (partOf c) (stateIn (partOf c) w') later))
           (sym (two-put answers (2 * i) (answerKind a) (answerByte a) fits) ∙ ap (λ (n : ℕ). take n (set (set answers (2 * i) (answerKind a)) (2 * i + 1) (answerByte a))) (sym two));
     }
       where
@@ -135,8 +135,8 @@ module _ (w₀ bytes : List ℕ) (asked : ℕ) (answers₀ : List ℕ) where
         fits = omega (arith, d .room)
 
     -- the loop ends here
-    ends : {n : ℕ} {w' : List ℕ} {s' : State} → ran part24 (stateIn part24 w) (sentOf bytes i (asked - i)) ≡ ended n s' → Packed 0 w' → stateIn part24 w' ≡ s'
-        → Left whole n w' answers₀ answers (i ∷ [])
+    ends : {n : ℕ} {w' : List ℕ} {s' : State} → ran (partOf c) (stateIn (partOf c) w) (sentOf bytes i (asked - i)) ≡ ended n s' → Packed c w' → stateIn (partOf c) w' ≡ s'
+        → Left c whole n w' answers₀ answers (i ∷ [])
     ends {n} {w'} {s'} e k q = record {
       number-is = sym (ap (λ (r : Ran). r .number) all);
       packed = k;
@@ -159,20 +159,20 @@ module _ (w₀ bytes : List ℕ) (asked : ℕ) (answers₀ : List ℕ) where
         count = omega arith
 
     -- a refused event
-    pub stop : i < asked → {w' : List ℕ} {a : Answer} {n : ℕ} → a ≡ Refused n → Leaves 0 w' a (one part24 (stateIn part24 w) (eventAt bytes i))
-        → Left whole n w' answers₀ answers (i ∷ [])
+    pub stop : i < asked → {w' : List ℕ} {a : Answer} {n : ℕ} → a ≡ Refused n → Leaves c w' a (one (partOf c) (stateIn (partOf c) w) (eventAt bytes i))
+        → Left c whole n w' answers₀ answers (i ∷ [])
     stop h {w'} {a} {n} e left =
-        let l : Leaves 0 w' (Refused n) (one part24 (stateIn part24 w) (eventAt bytes i)) =
-        subst (λ (a : Answer). Leaves 0 w' a (one part24 (stateIn part24 w) (eventAt bytes i))) e left in
-        ends (ap (ran part24 (stateIn part24 w)) (first h) ∙ ran-stop part24 (stateIn part24 w) (eventAt bytes i) (sentOf bytes (i + 1) (asked - (i + 1))) (l .outcome))
-        (l .packed) (refused-same w (d .packed) (eventAt bytes i) l)
+        let l : Leaves c w' (Refused n) (one (partOf c) (stateIn (partOf c) w) (eventAt bytes i)) =
+        subst (λ (a : Answer). Leaves c w' a (one (partOf c) (stateIn (partOf c) w) (eventAt bytes i))) e left in
+        ends (ap (ran (partOf c) (stateIn (partOf c) w)) (first h) ∙ ran-stop (partOf c) (stateIn (partOf c) w) (eventAt bytes i) (sentOf bytes (i + 1) (asked - (i + 1))) (l .outcome))
+        (l .packed) (refused-same c w (d .packed) (eventAt bytes i) l)
 
     -- none was
-    pub finish : asked ≤ i → Left whole 0 w answers₀ answers (asked ∷ [])
+    pub finish : asked ≤ i → Left c whole 0 w answers₀ answers (asked ∷ [])
     unfolding ran sentOf
     finish h =
-        subst (λ (n : ℕ). Left whole 0 w answers₀ answers (n ∷ [])) last
-        (ends (ap (λ (n : ℕ). ran part24 (stateIn part24 w) (sentOf bytes i n)) none) (d .packed) refl)
+        subst (λ (n : ℕ). Left c whole 0 w answers₀ answers (n ∷ [])) last
+        (ends (ap (λ (n : ℕ). ran (partOf c) (stateIn (partOf c) w) (sentOf bytes i n)) none) (d .packed) refl)
       where
         none : asked - i ≡ 0
         none = omega arith

@@ -2,10 +2,10 @@
 use mathlib.Core.Bool.{Bool, true, false, cond, not, _||_}
 use mathlib.Core.List.{List, [], _∷_, _++_}
 use mathlib.Core.Path.{_≡_}
-use Prim.Native.Nat.{ℕ, zero, suc, _+_, _*_, _/_, _%_}
+use Prim.Native.Nat.{ℕ, zero, suc, _+_, _*_, _/_, _%_, _^_}
 use lib.Dec.{eqb, ltb, leb}
 use lib.ListN.{length, getD, drop}
-use Rattle.map.specs.Map.{Part, part24}
+use Rattle.map.specs.Map.{Part, partOf}
 use Rattle.device_rules.specs.Device.{State, Outcome, out}
 use Rattle.device_rules.specs.Refusals.{imageFits, stepped}
 use Rattle.device_rules.specs.Answers.{answerKind, answerByte, refusalNumber}
@@ -37,10 +37,17 @@ sentOf b i zero = []
 sentOf b i (suc n) = eventAt b i ∷ sentOf b (suc i) n
 
 -- ---- what they do
--- One event: the third word must be 0. This part has no use for it, so that another is refusal 2 for every kind, after 3 and 1.
+-- a part whose pins need more than 32 bits takes the third word as the upper half of the argument
+abbrev pub halved : Part → Bool
+halved p = ltb 32 (p .width)
+
+abbrev pub wholeOf : Sent → ℕ
+wholeOf e = e .third * 2 ^ 32 + e .arg
+
+-- One event. Any other part has no use for a third word, so that one that is not 0 is refusal 2 for every kind, after 3 and 1.
 unfoldable pub one : Part → State → Sent → Outcome
 one p s e =
-    cond (eqb (e .third) 0) (stepped p s (e .kind) (e .arg)) (out (Refused (cond (imageFits p s) (cond (leb (e .kind) 5) 2 1) 3)) s)
+    cond (eqb (e .third) 0 || halved p) (stepped p s (e .kind) (wholeOf e)) (out (Refused (cond (imageFits p s) (cond (leb (e .kind) 5) 2 1) 3)) s)
 
 -- after some events: the number of the refusal that ended them, 0 for none; how many were done; two bytes told for each; the state
 pub record Ran : Type 0 where
@@ -75,18 +82,18 @@ ran p s (e ∷ es) = afterOne s (one p s e) (λ s. ran p s es)
 abbrev pub eight : (bytes asked room : ℕ) → Bool
 eight bytes asked room = not (eqb (bytes % 12) 0) || (ltb (bytes / 12) asked || (ltb 512 asked || ltb room (2 * asked)))
 
--- what the events leave of words that are packed: the number; the state; the answers in front, those past them as they were; the count
-pub record Left (b : Ran) (number : ℕ) (w' answers answers' done' : List ℕ) : Type 0 where
+-- what the events leave of words that are packed of part c: the number; the state; the answers in front, those past them as they were; the count
+pub record Left (c : ℕ) (b : Ran) (number : ℕ) (w' answers answers' done' : List ℕ) : Type 0 where
   pub number-is : number ≡ b .number
-  pub packed : Packed 0 w'
-  pub after : stateIn part24 w' ≡ b .after
+  pub packed : Packed c w'
+  pub after : stateIn (partOf c) w' ≡ b .after
   pub told : answers' ≡ b .told ++ drop (length (b .told)) answers
   pub counted : done' ≡ b .done ∷ []
 
--- a burst: 8 with nothing lent written; by the rules where the words are packed; where they are not, 3 for the first event if one is asked
-pub record Bursts (w bytes : List ℕ) (asked number : ℕ) (w' answers answers' done done' : List ℕ) : Type 0 where
+-- a burst of part c: 8 with nothing lent written; by the rules where the words are packed; where they are not, 3 for the first event if one is asked
+pub record Bursts (c : ℕ) (w bytes : List ℕ) (asked number : ℕ) (w' answers answers' done done' : List ℕ) : Type 0 where
   pub eighth : eight (length bytes) asked (length answers) ≡ true → (number ≡ 8) × (w' ≡ w) × (answers' ≡ answers) × (done' ≡ done)
-  pub taken : eight (length bytes) asked (length answers) ≡ false → Packed 0 w
-      → Left (ran part24 (stateIn part24 w) (sentOf bytes 0 asked)) number w' answers answers' done'
-  pub broken : eight (length bytes) asked (length answers) ≡ false → (Packed 0 w → ⊥)
+  pub taken : eight (length bytes) asked (length answers) ≡ false → Packed c w
+      → Left c (ran (partOf c) (stateIn (partOf c) w) (sentOf bytes 0 asked)) number w' answers answers' done'
+  pub broken : eight (length bytes) asked (length answers) ≡ false → (Packed c w → ⊥)
       → (number ≡ cond (eqb asked 0) 0 3) × (w' ≡ w) × (answers' ≡ answers) × (done' ≡ 0 ∷ [])

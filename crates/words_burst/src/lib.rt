@@ -1,16 +1,16 @@
 // Many events in one call, on words that are lent: the image is tested once.
 ghost use mathlib.Core.Path.{_≡_};
-ghost use Prim.Native.Nat.{_+_, _*_, _≤_};
+ghost use Prim.Native.Nat.{ℕ, _+_, _*_, _≤_};
 ghost use mathlib.Core.Bool.{false};
 ghost use lib.Dec.{eqb};
-ghost use lib.ListN.{length, set};
-ghost use Rattle.map.specs.Map.{part24, Stepping};
+ghost use lib.ListN.{length, getD, set};
+ghost use Rattle.map.specs.Map.{partOf};
 ghost use Rattle.device_rules.specs.Answers.{answerKind, answerByte};
-ghost use Rattle.words_rows.specs.Rows.{Rowed};
+ghost use Rattle.words_rows.specs.Rows.{Tabled};
 ghost use Rattle.words_bus.specs.Packed.{stateIn, answerAt, Packed, Leaves};
+ghost use Rattle.words_device.specs.Named.{Named};
 ghost use Rattle.words_burst.specs.Burst.{wordAt, sent, eventAt, sentOf, one, ran, eight, Left, Bursts};
 use device_rules::Answer;
-use map::PINS24;
 use words_bus::WRONG_ARGUMENT;
 use words_bus::WRONG_KIND;
 
@@ -25,6 +25,11 @@ const MOST_EVENTS: u64 = 512;
 
 // The last event kind.
 const LAST_KIND: u32 = 5;
+
+// The most that the lower half of an argument can be, and what its upper half counts.
+const LOWER_HALF: u64 = 0xffff_ffff;
+
+const UPPER_HALF: u64 = 0x1_0000_0000;
 
 fn wide(b: u8) -> u32
     ensures { λ r. ⌜ (r ≡ b) × (r ≤ 255) ⌝ }
@@ -42,20 +47,25 @@ fn word_at(bytes: &[u8], at: usize) -> u32
     high * 65536 + low
 }
 
-// One event: its third word must be 0.
+// One event: a third word is the upper half of the argument where the pins need it, and else refused.
 fn one(
     words: &mut [u64; 28],
     rows: &[u32; 128],
     next: &[u8; 128],
+    pins: u64,
     kind: u32,
     arg: u32,
     third: u32,
 ) -> u32
-    requires { ⌜ Packed 0 (now words) × Rowed part24 (now rows) × Stepping part24 (now next) ⌝ }
-    ensures { λ a. ⌜ Leaves 0 (now (words .exit)) (answerAt a) (one part24 (stateIn part24 (now (words .entry))) (sent kind arg third)) ⌝ }
+    requires { ⌜ Named (now words) × Tabled (getD (now words) 27 0) (now rows) (now next) pins ⌝ }
+    ensures { λ a. ⌜ ((c : ℕ) → Packed c (now (words .entry)) → Leaves c (now (words .exit)) (answerAt a) (one (partOf c) (stateIn (partOf c) (now (words .entry))) (sent kind arg third))) ⌝ }
 {
     if third == 0 {
-        return words_device::event_by(words, rows, next, PINS24, kind, arg as u64);
+        return words_device::event_by(words, rows, next, pins, kind, arg as u64);
+    }
+    if LOWER_HALF < pins {
+        let whole = third as u64 * UPPER_HALF + arg as u64;
+        return words_device::event_by(words, rows, next, pins, kind, whole);
     }
     if LAST_KIND < kind {
         return WRONG_KIND;
@@ -64,14 +74,21 @@ fn one(
 }
 
 // The event of number i.
-fn take(words: &mut [u64; 28], rows: &[u32; 128], next: &[u8; 128], events: &[u8], i: usize) -> u32
-    requires { ⌜ Packed 0 (now words) × Rowed part24 (now rows) × Stepping part24 (now next) × (12 * i + 12 ≤ length (now events)) ⌝ }
-    ensures { λ a. ⌜ Leaves 0 (now (words .exit)) (answerAt a) (one part24 (stateIn part24 (now (words .entry))) (eventAt (now (events .entry)) i)) ⌝ }
+fn take(
+    words: &mut [u64; 28],
+    rows: &[u32; 128],
+    next: &[u8; 128],
+    pins: u64,
+    events: &[u8],
+    i: usize,
+) -> u32
+    requires { ⌜ Named (now words) × Tabled (getD (now words) 27 0) (now rows) (now next) pins × (12 * i + 12 ≤ length (now events)) ⌝ }
+    ensures { λ a. ⌜ ((c : ℕ) → Packed c (now (words .entry)) → Leaves c (now (words .exit)) (answerAt a) (one (partOf c) (stateIn (partOf c) (now (words .entry))) (eventAt (now (events .entry)) i))) ⌝ }
 {
     let kind = word_at(events, 12 * i);
     let arg = word_at(events, 12 * i + 4);
     let third = word_at(events, 12 * i + 8);
-    one(words, rows, next, kind, arg, third)
+    one(words, rows, next, pins, kind, arg, third)
 }
 
 // The answer of event number i, which is no refusal: its kind and the byte read.
@@ -88,18 +105,19 @@ fn run(
     words: &mut [u64; 28],
     rows: &[u32; 128],
     next: &[u8; 128],
+    pins: u64,
     events: &[u8],
     asked: usize,
     answers: &mut [u8],
     done: &mut [u64; 1],
 ) -> u32
-    requires { ⌜ Packed 0 (now words) × Rowed part24 (now rows) × Stepping part24 (now next) × (12 * asked ≤ length (now events)) × (2 * asked ≤ length (now answers)) ⌝ }
-    ensures { λ r. ⌜ Left (ran part24 (stateIn part24 (now (words .entry))) (sentOf (now (events .entry)) 0 asked)) r
-        (now (words .exit)) (now (answers .entry)) (now (answers .exit)) (now (done .exit)) ⌝ }
+    requires { ⌜ Named (now words) × Tabled (getD (now words) 27 0) (now rows) (now next) pins × (12 * asked ≤ length (now events)) × (2 * asked ≤ length (now answers)) ⌝ }
+    ensures { λ r. ⌜ ((c : ℕ) → Packed c (now (words .entry)) → Left c (ran (partOf c) (stateIn (partOf c) (now (words .entry))) (sentOf (now (events .entry)) 0 asked)) r
+        (now (words .exit)) (now (answers .entry)) (now (answers .exit)) (now (done .exit))) ⌝ }
 {
     let mut i = 0;
     while i < asked {
-        let number = take(words, rows, next, events, i);
+        let number = take(words, rows, next, pins, events, i);
         let answer = words_bus::answer(number);
         let Answer::Refused(refusal) = answer else {
             put(answers, i, number);
@@ -129,15 +147,16 @@ fn is_bad(bytes: u64, asked: u64, room: u64) -> bool
     room < 2 * asked
 }
 
-// A burst of the 24-pin device.
-pub fn burst24(
+// A burst of the part.
+pub fn burst(
     words: &mut [u64; 28],
+    part: u64,
     events: &[u8],
     asked: u64,
     answers: &mut [u8],
     done: &mut [u64; 1],
 ) -> u32
-    ensures { λ r. ⌜ Bursts (now (words .entry)) (now (events .entry)) asked r (now (words .exit))
+    ensures { λ r. ⌜ Bursts part (now (words .entry)) (now (events .entry)) asked r (now (words .exit))
         (now (answers .entry)) (now (answers .exit)) (now (done .entry)) (now (done .exit)) ⌝ }
 {
     if is_bad(events.len() as u64, asked, answers.len() as u64) {
@@ -147,11 +166,21 @@ pub fn burst24(
         *done = [0];
         return 0;
     }
-    if !words_fits::fits(&*words, 0) {
+    if !words_fits::fits(&*words, part) {
         *done = [0];
         return BROKEN;
     }
-    let rows = words_rows::rows24();
-    let next = map::next24();
-    run(words, &rows, &next, events, asked as usize, answers, done)
+    let rows = words_rows::rows_of(part);
+    let next = map::next_of(part);
+    let pins = map::pins_of(part);
+    run(
+        words,
+        &rows,
+        &next,
+        pins,
+        events,
+        asked as usize,
+        answers,
+        done,
+    )
 }

@@ -1,37 +1,40 @@
--- `one`: the third word by `plain` and `not-plain`. Assumes nothing.
+-- `one`: the third word by `plain`, `upper` and `not-plain`. Assumes nothing.
 use borrow.Author.Needs.{needs}
-use mathlib.Core.Path.{refl}
 use mathlib.Core.Bool.{true, false}
 use borrow.Author.Tests.{le-leb, lt-leb}
-use Rattle.words_device.proofs.Naming.{named, its-tables, obeyed}
-use Rattle.words_burst.specs.Burst.{sent}
-use Rattle.words_burst.proofs.Doing.{plain, not-plain}
+use Rattle.words_device.proofs.Naming.{obeyed}
+use Rattle.words_burst.specs.Burst.{sent, wholeOf}
+use Rattle.words_burst.proofs.Doing.{plain, upper, not-plain}
 use Rattle.words_burst.proofs.one.Statement.{statement}
 use Rattle.words_burst.proofs.one.Tie as tie
-
-event-by-requires : tie.Need-event-by-requires
-event-by-requires c κs =
-    let p = c .before .before .pre in
-    (named 0 _ (p .0), its-tables 0 _ (p .0) (record { rowed = p .1; stepping = p .2; pins-are = refl }))
 
 returns : tie.Need-returns
 returns c =
     let t = c .before .before in
     let a = t .before .args in
-    let k = t .before .pre .0 in
-    plain (a .words .now) k (sent (a .kind) (a .arg) (a .third)) (t .if1 .taken) (obeyed 0 _ k (a .kind) (a .arg) (c .event-by .ensures))
+    λ p k. plain p (a .words .now) k (sent (a .kind) (a .arg) (a .third)) (t .if1 .taken) (obeyed p _ k (a .kind) (a .arg) (c .event-by .ensures))
 
 returns-2 : tie.Need-returns-2
 returns-2 c =
-    let s = c .before .before in
+    let t = c .before .before in
+    let s = t .before .before in
     let a = s .args in
-    not-plain (a .words .now) (s .pre .0) (sent (a .kind) (a .arg) (a .third)) (c .before .if1 .left) false (lt-leb _ _ (c .if2 .taken))
+    let e = sent (a .kind) (a .arg) (a .third) in
+    λ p k. upper p (a .words .now) k e (a .pins) (s .pre .1 .pins-are) (t .if2 .taken) (obeyed p _ k (a .kind) (wholeOf e) (c .event-by2 .ensures))
 
 returns-3 : tie.Need-returns-3
 returns-3 c =
-    let s = c .before .before in
+    let t = c .before in
+    let s = t .before .before in
     let a = s .args in
-    not-plain (a .words .now) (s .pre .0) (sent (a .kind) (a .arg) (a .third)) (c .before .if1 .left) true (le-leb _ _ (c .if2 .left))
+    λ p k. not-plain p (a .words .now) k (sent (a .kind) (a .arg) (a .third)) (a .pins) (s .pre .1 .pins-are) (t .before .if1 .left) (t .if2 .left) false (lt-leb _ _ (c .if3 .taken))
+
+returns-4 : tie.Need-returns-4
+returns-4 c =
+    let t = c .before in
+    let s = t .before .before in
+    let a = s .args in
+    λ p k. not-plain p (a .words .now) k (sent (a .kind) (a .arg) (a .third)) (a .pins) (s .pre .1 .pins-are) (t .before .if1 .left) (t .if2 .left) true (le-leb _ _ (c .if3 .left))
 
 pub one-spec : {M : Type 1} → statement M
-one-spec = tie.close (tie.spec event-by-requires returns returns-2 returns-3)
+one-spec = tie.close (tie.spec (λ c κs. search needs) returns (λ c. search needs) (λ c. search needs) (λ c κs. search needs) returns-2 returns-3 returns-4)

@@ -3,23 +3,27 @@ use borrow.Author.Needs.{needs}
 use mathlib.Core.Path.{sym, _∙_}
 use Prim.Native.Nat.{_-_}
 use native.Mathlib.Omega.{arith}
+use lib.ListN.{getD}
+use Rattle.words_device.proofs.Naming.{named, its-tables}
 use Rattle.words_burst.proofs.Running.{answered, Running, begin, turn, stop, finish}
 use Rattle.words_burst.proofs.run.Statement.{statement}
 use Rattle.words_burst.proofs.run.Tie as tie
 
 abbrev Inv-loop : tie.InvT-loop
-Inv-loop words₀ rows next events asked answers₀ done₀ i₀ words answers done i = Running words₀ events asked answers₀ words answers i
+Inv-loop words₀ rows next pins events asked answers₀ done₀ i₀ words answers done i = Running (getD words₀ 27 0) words₀ events asked answers₀ words answers i
 
 abbrev μ-loop : tie.MeasureT-loop
-μ-loop words₀ rows next events asked answers₀ done₀ i₀ words answers done i = asked - i
+μ-loop words₀ rows next pins events asked answers₀ done₀ i₀ words answers done i = asked - i
 
 loop-holds : tie.Need-loop-holds Inv-loop μ-loop
-loop-holds c = begin _ _ _ _ (c .before .before .pre .0)
+loop-holds c = begin _ _ _ _ _ (c .before .before .pre .0)
 
 take-requires : tie.Need-take-requires Inv-loop μ-loop
 take-requires c κs =
     let l = c .before .before in
-    (l .loop .inv .packed, l .before .before .before .pre .1, l .before .before .before .pre .2, omega arith)
+    let s = l .before .before .before in
+    let k = l .loop .inv .packed in
+    (named _ _ k, its-tables _ _ k (s .pre .1), omega arith)
 
 returns : tie.Need-returns Inv-loop μ-loop
 returns c =
@@ -29,8 +33,9 @@ returns c =
     let l = took .before .before .before in
     let s = l .before .before .before in
     let a = s .args in
-    stop (a .words .now) (a .events .now) (a .asked) (a .answers .now) (s .pre .4) (l .loop .words) (l .loop .answers) (l .loop .i) (l .loop .inv)
-    (omega arith) (sym (told .answer .ensures) ∙ known .answer2 .given .1) (took .take .ensures)
+    λ p k. rw (k .part-is) at
+    (stop _ (a .words .now) (a .events .now) (a .asked) (a .answers .now) (s .pre .3) (l .loop .words) (l .loop .answers) (l .loop .i) (l .loop .inv)
+    (omega arith) (sym (told .answer .ensures) ∙ known .answer2 .given .1) (took .take .ensures _ (l .loop .inv .packed)))
 
 put-requires : tie.Need-put-requires Inv-loop μ-loop
 put-requires c κs =
@@ -48,15 +53,16 @@ loop-again c =
     let s = l .before .before .before in
     let a = s .args in
     rw (putted .put .ensures)
-    (turn (a .words .now) (a .events .now) (a .asked) (a .answers .now) (s .pre .4) (l .loop .words) (l .loop .answers) (l .loop .i) (l .loop .inv)
-    (omega arith) (took .take .ensures) (answered (told .answer .ensures) (m .match .keys2)))
+    (turn _ (a .words .now) (a .events .now) (a .asked) (a .answers .now) (s .pre .3) (l .loop .words) (l .loop .answers) (l .loop .i) (l .loop .inv)
+    (omega arith) (took .take .ensures _ (l .loop .inv .packed)) (answered (told .answer .ensures) (m .match .keys2)))
 
 returns-2 : tie.Need-returns-2 Inv-loop μ-loop
 returns-2 c =
     let l = c .before .before in
     let s = l .before .before .before in
     let a = s .args in
-    finish (a .words .now) (a .events .now) (a .asked) (a .answers .now) (s .pre .4) (l .loop .words) (l .loop .answers) (l .loop .i) (l .loop .inv) (c .before .loop-test .left)
+    λ p k. rw (k .part-is) at
+    (finish _ (a .words .now) (a .events .now) (a .asked) (a .answers .now) (s .pre .3) (l .loop .words) (l .loop .answers) (l .loop .i) (l .loop .inv) (c .before .loop-test .left))
 
 pub run-spec : {M : Type 1} → statement M
 run-spec =

@@ -9,7 +9,7 @@ returns c =
     let third = c .before .before in
     let arg = third .before in
     let kind = arg .before in
-    by-rule (c .one .ensures) (rw (kind .word-at .ensures, arg .word-at2 .ensures, third .word-at3 .ensures))
+    λ p k. by-rule (c .one .ensures p k) (rw (kind .word-at .ensures, arg .word-at2 .ensures, third .word-at3 .ensures))
 
 pub take-spec : {M : Type 1} → statement M
 take-spec =
