@@ -1,13 +1,13 @@
-// The C boundary: the state as words that the caller owns, an image as its arrays, answers and refusals as numbers.
+// The C boundary: the state as words that the caller owns, an image as its arrays, answers and refusals as numbers. Each call is there for both parts.
 ghost use mathlib.Core.Path.{_≡_};
 ghost use mathlib.Core.Bool.{false};
+ghost use Prim.Native.Nat.{_<_};
 ghost use lib.Dec.{eqb};
 ghost use lib.ListN.{length};
 ghost use Rattle.planner_promise.specs.Answer.{answerOf, Answers};
 ghost use Rattle.planner_promise.specs.Promise.{Promise};
 ghost use Rattle.host_words.specs.Host.{Told, Made, Seen, Shown, drivesOf, intOf, imageIn, FromImage, ToImage, plannedAs, countIn};
 ghost use Rattle.words_burst.specs.Burst.{Bursts};
-use map::PINS24;
 use pins::Sets;
 use words::BUS;
 use words::CHOICE;
@@ -26,45 +26,38 @@ const BAD_ARGUMENT: u32 = 2;
 
 const BAD_IMAGE: u32 = 3;
 
+// The parts by their numbers.
+const PCAL6524: u64 = 0;
+
+const PCAL6534: u64 = 1;
+
 // The last address choice.
 const LAST_CHOICE: u32 = 3;
 
-// A device at power-on.
-#[no_mangle]
-pub extern "C" fn ghixramel_power_on(words: &mut [u64; 28], choice: u32, levels: u64) -> u32
-    ensures { λ r. ⌜ Made choice levels r (now (words .entry)) (now (words .exit)) ⌝ }
+// The last register number.
+const LAST_NUMBER: u32 = 127;
+
+// A device of the part at power-on.
+fn power_on(words: &mut [u64; 28], part: u64, choice: u32, levels: u64) -> u32
+    requires { ⌜ part < 2 ⌝ }
+    ensures { λ r. ⌜ Made part choice levels r (now (words .entry)) (now (words .exit)) ⌝ }
 {
     if LAST_CHOICE < choice {
         return BAD_ARGUMENT;
     }
-    if PINS24 < levels {
+    if map::pins_of(part) < levels {
         return BAD_ARGUMENT;
     }
-    words_device::power_on(words, 0, (choice % 4) as u8, levels);
+    words_device::power_on(words, part, (choice % 4) as u8, levels);
     DONE
 }
 
-// One event.
-#[no_mangle]
-pub extern "C" fn ghixramel_step(
-    words: &mut [u64; 28],
-    kind: u32,
-    argument: u64,
-    answer: &mut [u8; 2],
-) -> u32
-    ensures { λ r. ⌜ Told (now (words .entry)) kind argument r (now (words .exit)) (now (answer .entry)) (now (answer .exit)) ⌝ }
-{
-    let number = words_device::step(words, 0, kind, argument);
-    host_words::tell(number, answer)
-}
-
 // The pins driven low and high.
-#[no_mangle]
-pub extern "C" fn ghixramel_drives(words: &[u64; 28], drives: &mut [u64; 2]) -> u32
-    ensures { λ r. ⌜ Seen (now (words .entry)) drivesOf r (now (drives .entry)) (now (drives .exit)) ⌝ }
+fn drives(words: &[u64; 28], part: u64, drives: &mut [u64; 2]) -> u32
+    ensures { λ r. ⌜ Seen part (now (words .entry)) drivesOf r (now (drives .entry)) (now (drives .exit)) ⌝ }
 {
-    if words_fits::fits(words, 0) {
-        let low = words_views::low(words, PINS24);
+    if words_fits::fits(words, part) {
+        let low = words_views::low(words, map::pins_of(part));
         let high = words_views::high(words);
         *drives = [low, high];
         return DONE;
@@ -73,11 +66,10 @@ pub extern "C" fn ghixramel_drives(words: &[u64; 28], drives: &mut [u64; 2]) -> 
 }
 
 // Whether INT is asserted.
-#[no_mangle]
-pub extern "C" fn ghixramel_int(words: &[u64; 28], asserted: &mut [u8; 1]) -> u32
-    ensures { λ r. ⌜ Seen (now (words .entry)) intOf r (now (asserted .entry)) (now (asserted .exit)) ⌝ }
+fn int(words: &[u64; 28], part: u64, asserted: &mut [u8; 1]) -> u32
+    ensures { λ r. ⌜ Seen part (now (words .entry)) intOf r (now (asserted .entry)) (now (asserted .exit)) ⌝ }
 {
-    if words_fits::fits(words, 0) {
+    if words_fits::fits(words, part) {
         *asserted = [host_words::one_if(words_views::int(words))];
         return DONE;
     }
@@ -85,17 +77,16 @@ pub extern "C" fn ghixramel_int(words: &[u64; 28], asserted: &mut [u8; 1]) -> u3
 }
 
 // The byte that a fetch of register n would show.
-#[no_mangle]
-pub extern "C" fn ghixramel_show(words: &[u64; 28], number: u32, shown: &mut [u8; 1]) -> u32
-    ensures { λ r. ⌜ Shown (now (words .entry)) number r (now (shown .entry)) (now (shown .exit)) ⌝ }
+fn show(words: &[u64; 28], part: u64, number: u32, shown: &mut [u8; 1]) -> u32
+    ensures { λ r. ⌜ Shown part (now (words .entry)) number r (now (shown .entry)) (now (shown .exit)) ⌝ }
 {
-    if !words_fits::fits(words, 0) {
+    if !words_fits::fits(words, part) {
         return BAD_IMAGE;
     }
-    if 127 < number {
+    if LAST_NUMBER < number {
         return BAD_ARGUMENT;
     }
-    let row = words_rows::row24((number % 128) as u8);
+    let row = words_rows::row_of(part, (number % 128) as u8);
     if row == 0 {
         return BAD_ARGUMENT;
     }
@@ -104,14 +95,15 @@ pub extern "C" fn ghixramel_show(words: &[u64; 28], number: u32, shown: &mut [u8
 }
 
 // The words of an image.
-#[no_mangle]
-pub extern "C" fn ghixramel_pack(
+fn pack(
     words: &mut [u64; 28],
+    part: u64,
     pins: &[u64; 4],
     registers: &[u8; 128],
     rest: &[u64; 5],
 ) -> u32
-    ensures { λ r. ⌜ FromImage (imageIn (now (pins .entry)) (now (registers .entry)) (now (rest .entry))) r (now (words .entry)) (now (words .exit)) ⌝ }
+    requires { ⌜ part < 2 ⌝ }
+    ensures { λ r. ⌜ FromImage part (imageIn (now (pins .entry)) (now (registers .entry)) (now (rest .entry))) r (now (words .entry)) (now (words .exit)) ⌝ }
 {
     let sets = Sets {
         level: pins[0],
@@ -121,7 +113,7 @@ pub extern "C" fn ghixramel_pack(
     };
     if words_images::pack(
         words,
-        0,
+        part,
         registers,
         sets,
         rest[0],
@@ -136,20 +128,20 @@ pub extern "C" fn ghixramel_pack(
 }
 
 // The image of words.
-#[no_mangle]
-pub extern "C" fn ghixramel_unpack(
+fn unpack(
     words: &[u64; 28],
+    part: u64,
     pins: &mut [u64; 4],
     registers: &mut [u8; 128],
     rest: &mut [u64; 5],
 ) -> u32
-    ensures { λ r. ⌜ ToImage (now (words .entry)) r (now (pins .entry)) (now (registers .entry)) (now (rest .entry))
+    ensures { λ r. ⌜ ToImage part (now (words .entry)) r (now (pins .entry)) (now (registers .entry)) (now (rest .entry))
         (now (pins .exit)) (now (registers .exit)) (now (rest .exit)) ⌝ }
 {
-    if !words_fits::fits(words, 0) {
+    if !words_fits::fits(words, part) {
         return BAD_IMAGE;
     }
-    words_images::to_file(words, 0, registers);
+    words_images::to_file(words, part, registers);
     *pins = [words[LEVEL], words[REFERENCE], words[HELD], words[EDGE]];
     *rest = [
         words[POINTER],
@@ -159,6 +151,88 @@ pub extern "C" fn ghixramel_unpack(
         words[LINE],
     ];
     DONE
+}
+
+// The calls of the PCAL6524.
+#[no_mangle]
+pub extern "C" fn ghixramel_power_on(words: &mut [u64; 28], choice: u32, levels: u64) -> u32
+    ensures { λ r. ⌜ Made 0 choice levels r (now (words .entry)) (now (words .exit)) ⌝ }
+{
+    power_on(words, PCAL6524, choice, levels)
+}
+
+#[no_mangle]
+pub extern "C" fn ghixramel_step(
+    words: &mut [u64; 28],
+    kind: u32,
+    argument: u64,
+    answer: &mut [u8; 2],
+) -> u32
+    ensures { λ r. ⌜ Told 0 (now (words .entry)) kind argument r (now (words .exit)) (now (answer .entry)) (now (answer .exit)) ⌝ }
+{
+    let number = words_device::step(words, PCAL6524, kind, argument);
+    host_words::tell(number, answer)
+}
+
+#[no_mangle]
+pub extern "C" fn ghixramel_drives(words: &[u64; 28], driven: &mut [u64; 2]) -> u32
+    ensures { λ r. ⌜ Seen 0 (now (words .entry)) drivesOf r (now (driven .entry)) (now (driven .exit)) ⌝ }
+{
+    drives(words, PCAL6524, driven)
+}
+
+#[no_mangle]
+pub extern "C" fn ghixramel_int(words: &[u64; 28], asserted: &mut [u8; 1]) -> u32
+    ensures { λ r. ⌜ Seen 0 (now (words .entry)) intOf r (now (asserted .entry)) (now (asserted .exit)) ⌝ }
+{
+    int(words, PCAL6524, asserted)
+}
+
+#[no_mangle]
+pub extern "C" fn ghixramel_show(words: &[u64; 28], number: u32, shown: &mut [u8; 1]) -> u32
+    ensures { λ r. ⌜ Shown 0 (now (words .entry)) number r (now (shown .entry)) (now (shown .exit)) ⌝ }
+{
+    show(words, PCAL6524, number, shown)
+}
+
+#[no_mangle]
+pub extern "C" fn ghixramel_pack(
+    words: &mut [u64; 28],
+    pins: &[u64; 4],
+    registers: &[u8; 128],
+    rest: &[u64; 5],
+) -> u32
+    ensures { λ r. ⌜ FromImage 0 (imageIn (now (pins .entry)) (now (registers .entry)) (now (rest .entry))) r (now (words .entry)) (now (words .exit)) ⌝ }
+{
+    pack(words, PCAL6524, pins, registers, rest)
+}
+
+#[no_mangle]
+pub extern "C" fn ghixramel_unpack(
+    words: &[u64; 28],
+    pins: &mut [u64; 4],
+    registers: &mut [u8; 128],
+    rest: &mut [u64; 5],
+) -> u32
+    ensures { λ r. ⌜ ToImage 0 (now (words .entry)) r (now (pins .entry)) (now (registers .entry)) (now (rest .entry))
+        (now (pins .exit)) (now (registers .exit)) (now (rest .exit)) ⌝ }
+{
+    unpack(words, PCAL6524, pins, registers, rest)
+}
+
+// Many events, each of twelve bytes, with two bytes of answer each.
+#[no_mangle]
+pub extern "C" fn ghixramel_burst(
+    words: &mut [u64; 28],
+    events: &[u8],
+    asked: u64,
+    answers: &mut [u8],
+    done: &mut [u64; 1],
+) -> u32
+    ensures { λ r. ⌜ Bursts 0 (now (words .entry)) (now (events .entry)) asked r (now (words .exit)) (now (answers .entry)) (now (answers .exit))
+        (now (done .entry)) (now (done .exit)) ⌝ }
+{
+    words_burst::burst(words, PCAL6524, events, asked, answers, done)
 }
 
 // The plan from the start to the goal, at the start of the buffer.
@@ -178,17 +252,84 @@ pub extern "C" fn ghixramel_plan(
     host_words::tell_plan(planned, writes)
 }
 
+// And of its sister, the PCAL6534.
+#[no_mangle]
+pub extern "C" fn ghixramel34_power_on(words: &mut [u64; 28], choice: u32, levels: u64) -> u32
+    ensures { λ r. ⌜ Made 1 choice levels r (now (words .entry)) (now (words .exit)) ⌝ }
+{
+    power_on(words, PCAL6534, choice, levels)
+}
+
+#[no_mangle]
+pub extern "C" fn ghixramel34_step(
+    words: &mut [u64; 28],
+    kind: u32,
+    argument: u64,
+    answer: &mut [u8; 2],
+) -> u32
+    ensures { λ r. ⌜ Told 1 (now (words .entry)) kind argument r (now (words .exit)) (now (answer .entry)) (now (answer .exit)) ⌝ }
+{
+    let number = words_device::step(words, PCAL6534, kind, argument);
+    host_words::tell(number, answer)
+}
+
+#[no_mangle]
+pub extern "C" fn ghixramel34_drives(words: &[u64; 28], driven: &mut [u64; 2]) -> u32
+    ensures { λ r. ⌜ Seen 1 (now (words .entry)) drivesOf r (now (driven .entry)) (now (driven .exit)) ⌝ }
+{
+    drives(words, PCAL6534, driven)
+}
+
+#[no_mangle]
+pub extern "C" fn ghixramel34_int(words: &[u64; 28], asserted: &mut [u8; 1]) -> u32
+    ensures { λ r. ⌜ Seen 1 (now (words .entry)) intOf r (now (asserted .entry)) (now (asserted .exit)) ⌝ }
+{
+    int(words, PCAL6534, asserted)
+}
+
+#[no_mangle]
+pub extern "C" fn ghixramel34_show(words: &[u64; 28], number: u32, shown: &mut [u8; 1]) -> u32
+    ensures { λ r. ⌜ Shown 1 (now (words .entry)) number r (now (shown .entry)) (now (shown .exit)) ⌝ }
+{
+    show(words, PCAL6534, number, shown)
+}
+
+#[no_mangle]
+pub extern "C" fn ghixramel34_pack(
+    words: &mut [u64; 28],
+    pins: &[u64; 4],
+    registers: &[u8; 128],
+    rest: &[u64; 5],
+) -> u32
+    ensures { λ r. ⌜ FromImage 1 (imageIn (now (pins .entry)) (now (registers .entry)) (now (rest .entry))) r (now (words .entry)) (now (words .exit)) ⌝ }
+{
+    pack(words, PCAL6534, pins, registers, rest)
+}
+
+#[no_mangle]
+pub extern "C" fn ghixramel34_unpack(
+    words: &[u64; 28],
+    pins: &mut [u64; 4],
+    registers: &mut [u8; 128],
+    rest: &mut [u64; 5],
+) -> u32
+    ensures { λ r. ⌜ ToImage 1 (now (words .entry)) r (now (pins .entry)) (now (registers .entry)) (now (rest .entry))
+        (now (pins .exit)) (now (registers .exit)) (now (rest .exit)) ⌝ }
+{
+    unpack(words, PCAL6534, pins, registers, rest)
+}
+
 // Many events, each of twelve bytes, with two bytes of answer each.
 #[no_mangle]
-pub extern "C" fn ghixramel_burst(
+pub extern "C" fn ghixramel34_burst(
     words: &mut [u64; 28],
     events: &[u8],
     asked: u64,
     answers: &mut [u8],
     done: &mut [u64; 1],
 ) -> u32
-    ensures { λ r. ⌜ Bursts 0 (now (words .entry)) (now (events .entry)) asked r (now (words .exit)) (now (answers .entry)) (now (answers .exit))
+    ensures { λ r. ⌜ Bursts 1 (now (words .entry)) (now (events .entry)) asked r (now (words .exit)) (now (answers .entry)) (now (answers .exit))
         (now (done .entry)) (now (done .exit)) ⌝ }
 {
-    words_burst::burst(words, 0, events, asked, answers, done)
+    words_burst::burst(words, PCAL6534, events, asked, answers, done)
 }

@@ -3,11 +3,11 @@ use mathlib.Core.Path.{_≡_, refl, sym, ap, ap₂, subst, _∙_}
 use mathlib.Core.Bool.{Bool, true, false, cond, _&&_}
 use mathlib.Core.List.{List, [], _∷_}
 use Prim.Native.Nat.{ℕ, _<_}
-use borrow.Author.Tests.{le-ltb}
+use borrow.Author.Tests.{lt-ltb, le-ltb}
 use lib.Dec.{eqb, ltb}
 use lib.ListN.{length, getD}
 use Rattle.bits.proofs.Decide.{clash}
-use Rattle.map.specs.Map.{part24, reserved}
+use Rattle.map.specs.Map.{Part, partOf, reserved}
 use Rattle.registers.specs.Registers.{core}
 use Rattle.device_rules.specs.Device.{State, Outcome, state, shownIn}
 use Rattle.device_rules.specs.Answers.{refusalNumber}
@@ -29,11 +29,11 @@ use Rattle.words_images.specs.Images.{Packs}
 use Rattle.host_words.specs.Host.{toldAs, Told, Made, Seen, Shown, FromImage, ToImage, writesAfter, plannedAs, countIn}
 
 -- ---- one event
-module _ (w w' told told' : List ℕ) (kind arg number : ℕ) where
+module _ (c : ℕ) (w w' told told' : List ℕ) (kind arg number : ℕ) where
   abbrev Same : Type 0
   Same = (w' ≡ w) × (told' ≡ told)
 
-  unchanged : (a : Answer) → Steps 0 w w' kind arg a → number ≡ refusalNumber a → told' ≡ toldAs a told → eqb number 0 ≡ false → Same
+  unchanged : (a : Answer) → Steps c w w' kind arg a → number ≡ refusalNumber a → told' ≡ toldAs a told → eqb number 0 ≡ false → Same
   unchanged Nothing s n t h = clash (eqb number 0) (ap (λ (k : ℕ). eqb k 0) n) h
   unchanged Ack s n t h = clash (eqb number 0) (ap (λ (k : ℕ). eqb k 0) n) h
   unchanged Nak s n t h = clash (eqb number 0) (ap (λ (k : ℕ). eqb k 0) n) h
@@ -41,7 +41,7 @@ module _ (w w' told told' : List ℕ) (kind arg number : ℕ) where
   unchanged (Refused m) s n t h = (s .refused m refl, t)
 
   -- a step on words, told in numbers
-  pub told-of : (a : Answer) → Steps 0 w w' kind arg a → number ≡ refusalNumber a → told' ≡ toldAs a told → Told w kind arg number w' told told'
+  pub told-of : (a : Answer) → Steps c w w' kind arg a → number ≡ refusalNumber a → told' ≡ toldAs a told → Told c w kind arg number w' told told'
   told-of a s n t = record {
     taken = λ k.
         let l = s .taken k in
@@ -56,21 +56,21 @@ module _ (w w' told told' : List ℕ) (kind arg number : ℕ) where
   }
 
 -- ---- a device that is made, or not
-pub made : (choice levels : ℕ) (w w' : List ℕ) → 0 ≡ makingRefused part24 choice levels → Packed 0 w' × (stateIn part24 w' ≡ powerOn part24 choice levels)
-    → Made choice levels 0 w w'
-made choice levels w w' e q =
-    record { refused = e; made = λ h. q; unchanged = λ h. clash (eqb (makingRefused part24 choice levels) 0) (ap (λ (n : ℕ). eqb n 0) (sym e)) h }
+pub made : (c choice levels : ℕ) (w w' : List ℕ) → 0 ≡ makingRefused (partOf c) choice levels → Packed c w' × (stateIn (partOf c) w' ≡ powerOn (partOf c) choice levels)
+    → Made c choice levels 0 w w'
+made c choice levels w w' e q =
+    record { refused = e; made = λ h. q; unchanged = λ h. clash (eqb (makingRefused (partOf c) choice levels) 0) (ap (λ (n : ℕ). eqb n 0) (sym e)) h }
 
-pub not-made : (choice levels : ℕ) (w : List ℕ) → 2 ≡ makingRefused part24 choice levels → Made choice levels 2 w w
-not-made choice levels w e =
+pub not-made : (c choice levels : ℕ) (w : List ℕ) → 2 ≡ makingRefused (partOf c) choice levels → Made c choice levels 2 w w
+not-made c choice levels w e =
     record { refused = e; made = λ h. clash true refl (ap (λ (n : ℕ). eqb n 2) (e ∙ h)); unchanged = λ h. refl }
 
 -- ---- what can be seen
-module _ (w : List ℕ) (value : State → List ℕ) (lent : List ℕ) where
-  pub seen : (lent' : List ℕ) → Packed 0 w → lent' ≡ value (stateIn part24 w) → Seen w value 0 lent lent'
+module _ (c : ℕ) (w : List ℕ) (value : Part → State → List ℕ) (lent : List ℕ) where
+  pub seen : (lent' : List ℕ) → Packed c w → lent' ≡ value (partOf c) (stateIn (partOf c) w) → Seen c w value 0 lent lent'
   seen lent' k e = record { seen = λ k. (refl, e); broken = λ z. absurd (z k) }
 
-  pub unseen : (Packed 0 w → ⊥) → Seen w value 3 lent lent
+  pub unseen : (Packed c w → ⊥) → Seen c w value 3 lent lent
   unseen z = record { seen = λ k. absurd (z k); broken = λ z. (refl, refl) }
 
 pub int-told : {t b : Bool} {n : ℕ} → n ≡ cond t 1 0 → t ≡ b → n ∷ [] ≡ cond b 1 0 ∷ []
@@ -79,37 +79,41 @@ int-told n t = ap (λ (n : ℕ). n ∷ []) n ∙ ap (λ (t : Bool). cond {A = �
 pub both-told : {l m h k : ℕ} → l ≡ m → h ≡ k → l ∷ h ∷ [] ≡ m ∷ k ∷ []
 both-told = ap₂ (λ (l h : ℕ). l ∷ h ∷ [])
 
-module _ (w : List ℕ) (n : ℕ) (lent : List ℕ) where
-  pub shown-here : (lent' : List ℕ) → Packed 0 w → reserved part24 n ≡ false → lent' ≡ shownIn part24 (stateIn part24 w) n ∷ [] → Shown w n 0 lent lent'
+module _ (c : ℕ) (w : List ℕ) (n : ℕ) (lent : List ℕ) where
+  pub shown-here : (lent' : List ℕ) → Packed c w → reserved (partOf c) n ≡ false → lent' ≡ shownIn (partOf c) (stateIn (partOf c) w) n ∷ [] → Shown c w n 0 lent lent'
   shown-here lent' k e q = record { seen = λ k. (simp e, q ∙ simp e); broken = λ z. absurd (z k) }
 
-  pub no-register : Packed 0 w → reserved part24 n ≡ true → Shown w n 2 lent lent
+  pub no-register : Packed c w → reserved (partOf c) n ≡ true → Shown c w n 2 lent lent
   no-register k e = record { seen = λ k. (simp e, simp e); broken = λ z. absurd (z k) }
 
-  pub not-shown : (Packed 0 w → ⊥) → Shown w n 3 lent lent
+  pub not-shown : (Packed c w → ⊥) → Shown c w n 3 lent lent
   not-shown z = record { seen = λ k. absurd (z k); broken = λ z. (refl, refl) }
 
-pub above : (n : ℕ) → 127 < n → reserved part24 n ≡ true
+pub above : (p : Part) (n : ℕ) → 127 < n → reserved p n ≡ true
 unfolding reserved
-above n h = simp (le-ltb n 128 h)
+above p n h = simp (le-ltb n 128 h)
 
 -- ---- images
-pub from-image : (image : State) (w w' : List ℕ) → Packs 0 image true w w' → FromImage image 0 w w'
-from-image image w w' p = record { packed = λ h. (refl, p .packed refl .0, p .packed refl .1); broken = λ h. clash (imageFits part24 image) (sym (p .judged)) h }
+-- of a part that is known, the image alone decides
+judged-by : (c : ℕ) → c < 2 → {fits t : Bool} → fits ≡ (ltb c 2 && t) → fits ≡ t
+judged-by c hc {t = t} e = e ∙ ap (λ (b : Bool). b && t) (lt-ltb c 2 hc)
 
-pub from-none : (image : State) (w w' : List ℕ) → Packs 0 image false w w' → FromImage image 3 w w'
-from-none image w w' p = record { packed = λ h. clash (imageFits part24 image) h (sym (p .judged)); broken = λ h. (refl, p .unchanged refl) }
+pub from-image : (c : ℕ) → c < 2 → (image : State) (w w' : List ℕ) → Packs c image true w w' → FromImage c image 0 w w'
+from-image c hc image w w' p = record { packed = λ h. (refl, p .packed refl .0, p .packed refl .1); broken = λ h. clash (imageFits (partOf c) image) (sym (judged-by c hc (p .judged))) h }
 
-module _ (w pins file rest : List ℕ) where
-  pub to-image : (file' : List ℕ) → Packed 0 w → file' ≡ fileOf part24 w
-      → ToImage w 0 pins file rest (getD w 0 0 ∷ getD w 1 0 ∷ getD w 2 0 ∷ getD w 3 0 ∷ []) file'
+pub from-none : (c : ℕ) → c < 2 → (image : State) (w w' : List ℕ) → Packs c image false w w' → FromImage c image 3 w w'
+from-none c hc image w w' p = record { packed = λ h. clash (imageFits (partOf c) image) h (sym (judged-by c hc (p .judged))); broken = λ h. (refl, p .unchanged refl) }
+
+module _ (c : ℕ) (w pins file rest : List ℕ) where
+  pub to-image : (file' : List ℕ) → Packed c w → file' ≡ fileOf (partOf c) w
+      → ToImage c w 0 pins file rest (getD w 0 0 ∷ getD w 1 0 ∷ getD w 2 0 ∷ getD w 3 0 ∷ []) file'
       (getD w 21 0 ∷ getD w 22 0 ∷ getD w 23 0 ∷ getD w 19 0 ∷ getD w 20 0 ∷ [])
   to-image file' k e = record {
     unpacked = λ k. (refl, ap (λ (f : List ℕ). state (core f (setsIn w)) (interruptIn w) (getD w 21 0) (getD w 22 0) (getD w 23 0)) e);
     broken = λ z. absurd (z k);
   }
 
-  pub to-none : (Packed 0 w → ⊥) → ToImage w 3 pins file rest pins file rest
+  pub to-none : (Packed c w → ⊥) → ToImage c w 3 pins file rest pins file rest
   to-none z = record { unpacked = λ k. absurd (z k); broken = λ z. (refl, refl, refl, refl) }
 
 -- ---- plans

@@ -1,11 +1,11 @@
--- What a C host sees: the state as words, an image as its arrays, answers and refusals as numbers. Each call, whatever is lent to it.
+-- What a C host sees: the state as words, an image as its arrays, answers and refusals as numbers. Each call of part c, whatever is lent to it.
 use mathlib.Core.Bool.{true, false, cond}
 use mathlib.Core.List.{List, [], _∷_}
 use mathlib.Core.Path.{_≡_}
 use Prim.Native.Nat.{ℕ}
 use lib.Dec.{eqb}
 use lib.ListN.{getD}
-use Rattle.map.specs.Map.{part24, reserved}
+use Rattle.map.specs.Map.{Part, partOf, reserved}
 use Rattle.registers.specs.Registers.{core, drivenLow, drivenHigh, intAsserted}
 use Rattle.registers.specs.Interrupt.{interrupt}
 use Rattle.device_rules.specs.Device.{State, Outcome, state, shownIn}
@@ -22,41 +22,41 @@ abbrev pub toldAs : Answer → (lent : List ℕ) → List ℕ
 toldAs answer lent = cond (eqb (answerKind answer) 4) lent (answerKind answer ∷ answerByte answer ∷ [])
 
 -- what one event leaves of words that are packed: the refusal's number, 0 for none; the state after; the answer
-pub record Taken (o : Outcome) (number : ℕ) (w' told told' : List ℕ) : Type 0 where
+pub record Taken (c : ℕ) (o : Outcome) (number : ℕ) (w' told told' : List ℕ) : Type 0 where
   pub refused : number ≡ refusalNumber (o .answer)
-  pub packed : Packed 0 w'
-  pub after : stateIn part24 w' ≡ o .after
+  pub packed : Packed c w'
+  pub after : stateIn (partOf c) w' ≡ o .after
   pub answer : told' ≡ toldAs (o .answer) told
 
 -- one event: by the rules where the words are packed; 3 where they are not; refused, nothing lent is changed
-pub record Told (w : List ℕ) (kind arg number : ℕ) (w' told told' : List ℕ) : Type 0 where
-  pub taken : Packed 0 w → Taken (stepped part24 (stateIn part24 w) kind arg) number w' told told'
-  pub broken : (Packed 0 w → ⊥) → number ≡ 3
+pub record Told (c : ℕ) (w : List ℕ) (kind arg number : ℕ) (w' told told' : List ℕ) : Type 0 where
+  pub taken : Packed c w → Taken c (stepped (partOf c) (stateIn (partOf c) w) kind arg) number w' told told'
+  pub broken : (Packed c w → ⊥) → number ≡ 3
   pub unchanged : eqb number 0 ≡ false → (w' ≡ w) × (told' ≡ told)
 
 -- making a device: refused, the words as they were
-pub record Made (choice levels number : ℕ) (w w' : List ℕ) : Type 0 where
-  pub refused : number ≡ makingRefused part24 choice levels
-  pub made : makingRefused part24 choice levels ≡ 0 → Packed 0 w' × (stateIn part24 w' ≡ powerOn part24 choice levels)
-  pub unchanged : eqb (makingRefused part24 choice levels) 0 ≡ false → w' ≡ w
+pub record Made (c choice levels number : ℕ) (w w' : List ℕ) : Type 0 where
+  pub refused : number ≡ makingRefused (partOf c) choice levels
+  pub made : makingRefused (partOf c) choice levels ≡ 0 → Packed c w' × (stateIn (partOf c) w' ≡ powerOn (partOf c) choice levels)
+  pub unchanged : eqb (makingRefused (partOf c) choice levels) 0 ≡ false → w' ≡ w
 
 -- what can be seen of a device: 3 if it is broken, and then what was lent for it stays as it was
-pub record Seen (w : List ℕ) (value : State → List ℕ) (number : ℕ) (lent lent' : List ℕ) : Type 0 where
-  pub seen : Packed 0 w → (number ≡ 0) × (lent' ≡ value (stateIn part24 w))
-  pub broken : (Packed 0 w → ⊥) → (number ≡ 3) × (lent' ≡ lent)
+pub record Seen (c : ℕ) (w : List ℕ) (value : Part → State → List ℕ) (number : ℕ) (lent lent' : List ℕ) : Type 0 where
+  pub seen : Packed c w → (number ≡ 0) × (lent' ≡ value (partOf c) (stateIn (partOf c) w))
+  pub broken : (Packed c w → ⊥) → (number ≡ 3) × (lent' ≡ lent)
 
-abbrev pub drivesOf : State → List ℕ
-drivesOf s = drivenLow part24 (s .regs) ∷ drivenHigh part24 (s .regs) ∷ []
+abbrev pub drivesOf : Part → State → List ℕ
+drivesOf p s = drivenLow p (s .regs) ∷ drivenHigh p (s .regs) ∷ []
 
 -- 1 if INT is asserted
-abbrev pub intOf : State → List ℕ
-intOf s = cond (intAsserted part24 (s .regs)) 1 0 ∷ []
+abbrev pub intOf : Part → State → List ℕ
+intOf p s = cond (intAsserted p (s .regs)) 1 0 ∷ []
 
 -- the byte of one register: after 3 also 2, for a number that is reserved or over 7Fh
-pub record Shown (w : List ℕ) (n number : ℕ) (lent lent' : List ℕ) : Type 0 where
-  pub seen : Packed 0 w
-      → (number ≡ cond (reserved part24 n) 2 0) × (lent' ≡ cond (reserved part24 n) lent (shownIn part24 (stateIn part24 w) n ∷ []))
-  pub broken : (Packed 0 w → ⊥) → (number ≡ 3) × (lent' ≡ lent)
+pub record Shown (c : ℕ) (w : List ℕ) (n number : ℕ) (lent lent' : List ℕ) : Type 0 where
+  pub seen : Packed c w
+      → (number ≡ cond (reserved (partOf c) n) 2 0) × (lent' ≡ cond (reserved (partOf c) n) lent (shownIn (partOf c) (stateIn (partOf c) w) n ∷ []))
+  pub broken : (Packed c w → ⊥) → (number ≡ 3) × (lent' ≡ lent)
 
 -- ---- images: the pin sets in the order level, reference, held, edge; the registers; pointer, bus state, address choice, status, line
 abbrev pub imageIn : (pins file rest : List ℕ) → State
@@ -65,14 +65,14 @@ imageIn pins file rest =
     (interrupt (getD rest 3 0) (getD rest 4 0)) (getD rest 0 0) (getD rest 1 0) (getD rest 2 0)
 
 -- an image to words: 3 if it may not stand, and then the words stay
-pub record FromImage (image : State) (number : ℕ) (w w' : List ℕ) : Type 0 where
-  pub packed : imageFits part24 image ≡ true → (number ≡ 0) × Packed 0 w' × (stateIn part24 w' ≡ image)
-  pub broken : imageFits part24 image ≡ false → (number ≡ 3) × (w' ≡ w)
+pub record FromImage (c : ℕ) (image : State) (number : ℕ) (w w' : List ℕ) : Type 0 where
+  pub packed : imageFits (partOf c) image ≡ true → (number ≡ 0) × Packed c w' × (stateIn (partOf c) w' ≡ image)
+  pub broken : imageFits (partOf c) image ≡ false → (number ≡ 3) × (w' ≡ w)
 
 -- words to an image: 3 if they are packed of none, and then what was lent for it stays as it was
-pub record ToImage (w : List ℕ) (number : ℕ) (pins file rest pins' file' rest' : List ℕ) : Type 0 where
-  pub unpacked : Packed 0 w → (number ≡ 0) × (imageIn pins' file' rest' ≡ stateIn part24 w)
-  pub broken : (Packed 0 w → ⊥) → (number ≡ 3) × (pins' ≡ pins) × (file' ≡ file) × (rest' ≡ rest)
+pub record ToImage (c : ℕ) (w : List ℕ) (number : ℕ) (pins file rest pins' file' rest' : List ℕ) : Type 0 where
+  pub unpacked : Packed c w → (number ≡ 0) × (imageIn pins' file' rest' ≡ stateIn (partOf c) w)
+  pub broken : (Packed c w → ⊥) → (number ≡ 3) × (pins' ≡ pins) × (file' ≡ file) × (rest' ≡ rest)
 
 -- ---- plans
 -- how many writes there are, stored beside the plan; a refusal leaves what was lent for it as it was

@@ -7,7 +7,7 @@ use Rattle.ghixramel.proofs.ghixramel_step.Tie as tie
 returns : tie.Need-returns
 returns c =
     let step = c .before .before in
-    told-of _ _ _ _ _ _ _ _ (step .step .ensures) (c .tell .ensures .0) (c .tell .ensures .1)
+    told-of 0 _ _ _ _ _ _ _ _ (step .step .ensures) (c .tell .ensures .0) (c .tell .ensures .1)
 
 pub ghixramel-step-spec : {M : Type 1} → statement M
 ghixramel-step-spec = tie.close (tie.spec (λ c κs. search needs) (λ c κs. search needs) returns)
