@@ -1,4 +1,5 @@
-/* ghixramel: the PCAL6524 in software, and the planner of quiet register writes. Link with libghixramel.a.
+/* ghixramel: the PCAL6524 and its sister of 34 pins, the PCAL6534, in software, and the planner of quiet register
+ * writes. Link with libghixramel.a. What is said of the PCAL6524's calls holds of the sister's, which come last.
  *
  * Every function gives 0, or the number of its refusal; refused, it changes nothing that it was lent, with one
  * exception: a burst keeps what it did before the event that it refuses. No call needs a check first. Nothing is
@@ -21,14 +22,16 @@ extern "C" {
 
 /* The state of a device, made by ghixramel_power_on or ghixramel_from_image. What a word holds is the library's own
  * affair; whoever wants to read a state takes its image. A state says its part: words that are the packing of no
- * well-formed image of a PCAL6524 are a broken image to every call that reads them, refusal 3. There is no padding: a
- * state may be stored, sent and compared, and equal states are equal bytes. */
+ * well-formed image of the call's own part are a broken image to every call that reads them, refusal 3, and so each
+ * part's calls refuse the other's states. There is no padding: a state may be stored, sent and compared, and equal
+ * states are equal bytes. */
 struct ghixramel {
     uint64_t words[28];
 };
 
 /* What a state holds, to read or to build one. Status and line follow from pins and registers: an image whose status
- * or line is another than theirs is broken. There is no padding here either: equal images are equal bytes. */
+ * or line is another than theirs is broken. It does not say its part: the call that takes it does. There is no padding
+ * here either: equal images are equal bytes. */
 struct ghixramel_image {
     uint64_t pins[4];       /* pin sets, pin 0 in the lowest bit: level, reference, held, edge */
     uint8_t registers[128]; /* one byte for each command number */
@@ -67,8 +70,8 @@ enum {
     GHIXRAMEL_BAD_ARGUMENT = 2, /* byte, acknowledge bit, levels, address choice, register number or a burst's third word out of range */
     GHIXRAMEL_BAD_IMAGE = 3,    /* broken: a number out of range, an entry where none is stored, a wrong status or line, or words of no image */
     GHIXRAMEL_NO_QUIET_WAY = 4, /* no list of writes gets there without disturbing a pin */
-    GHIXRAMEL_BAD_SETTING = 5,  /* start or goal not ten bytes, or its 5C over 7 */
-    GHIXRAMEL_BUFFER_SMALL = 6, /* plan buffer under GHIXRAMEL_PLAN_BYTES */
+    GHIXRAMEL_BAD_SETTING = 5,  /* start or goal not ten bytes (the sister: sixteen), or with a bit that does not exist, as a 5C over 7 */
+    GHIXRAMEL_BUFFER_SMALL = 6, /* plan buffer under GHIXRAMEL_PLAN_BYTES (the sister: GHIXRAMEL34_PLAN_BYTES) */
     GHIXRAMEL_BAD_BURST = 8     /* bytes that are no whole events, more asked than given or allowed, or no room for the answers */
 };
 
@@ -140,11 +143,9 @@ uint32_t ghixramel_show(const struct ghixramel *device, uint32_t number, uint8_t
 uint32_t ghixramel_pack(uint64_t words[28], const uint64_t pins[4], const uint8_t registers[128], const uint64_t rest[5]);
 uint32_t ghixramel_unpack(const uint64_t words[28], uint64_t pins[4], uint8_t registers[128], uint64_t rest[5]);
 
-/* The image of a state. Refusal 3. */
-static inline uint32_t ghixramel_to_image(const struct ghixramel *device, struct ghixramel_image *image)
+/* The image's numbers out of rest, if the call that filled it was not refused. */
+static inline uint32_t ghixramel_image_rest(uint32_t refusal, const uint64_t rest[5], struct ghixramel_image *image)
 {
-    uint64_t rest[5] = {0};
-    uint32_t refusal = ghixramel_unpack(device->words, image->pins, image->registers, rest);
     if (refusal == GHIXRAMEL_DONE) {
         image->pointer = rest[0];
         image->bus = rest[1];
@@ -153,6 +154,13 @@ static inline uint32_t ghixramel_to_image(const struct ghixramel *device, struct
         image->line = rest[4];
     }
     return refusal;
+}
+
+/* The image of a state. Refusal 3. */
+static inline uint32_t ghixramel_to_image(const struct ghixramel *device, struct ghixramel_image *image)
+{
+    uint64_t rest[5] = {0};
+    return ghixramel_image_rest(ghixramel_unpack(device->words, image->pins, image->registers, rest), rest, image);
 }
 
 /* A device in the state that the image says; what its memory held does not matter. Refusal 3. */
@@ -166,6 +174,38 @@ static inline uint32_t ghixramel_from_image(struct ghixramel *device, const stru
  * at most GHIXRAMEL_MOST_WRITES; bytes past them stay. Refusals 5, 6, 4. Lengths have 64 bits on every processor. */
 uint32_t ghixramel_plan(const uint8_t *start, uint64_t start_bytes, const uint8_t *goal, uint64_t goal_bytes,
                         uint8_t *buffer, uint64_t buffer_bytes, uint64_t writes[1]);
+
+/* The sister, the PCAL6534, on the same structs: each call as its namesake, by the same code, with its own registers
+ * and 34 pins. What is another number than the PCAL6524's:
+ *
+ * - levels and pin sets are below 2^34, nine hex digits; pins 34 to 39 do not exist: they are never driven and in no set,
+ *   and the bits of their places in a register are ignored when written and read 0. Set in an image they are refusal 3;
+ * - an event of a burst has the upper half of its argument in its third word: levels up to 2^34 - 1 pass, a byte or an
+ *   acknowledge bit with an upper half is 2, START, STOP and reset ignore all of it;
+ * - a setting is sixteen bytes, for the registers 05-09 0F-13 53 68-6C in this order; a plan has at most 26 writes. */
+enum { GHIXRAMEL34_SETTING_BYTES = 16, GHIXRAMEL34_MOST_WRITES = 26, GHIXRAMEL34_PLAN_BYTES = 52 };
+
+uint32_t ghixramel34_power_on(struct ghixramel *device, uint32_t choice, uint64_t levels);
+uint32_t ghixramel34_step(struct ghixramel *device, uint32_t kind, uint64_t argument, uint8_t answer[2]);
+uint32_t ghixramel34_burst(struct ghixramel *device, const uint8_t *events, uint64_t event_bytes, uint64_t asked,
+                           uint8_t *answers, uint64_t answer_bytes, uint64_t done[1]);
+uint32_t ghixramel34_drives(const struct ghixramel *device, uint64_t drives[2]);
+uint32_t ghixramel34_int(const struct ghixramel *device, uint8_t asserted[1]);
+uint32_t ghixramel34_show(const struct ghixramel *device, uint32_t number, uint8_t shown[1]);
+uint32_t ghixramel34_pack(uint64_t words[28], const uint64_t pins[4], const uint8_t registers[128], const uint64_t rest[5]);
+uint32_t ghixramel34_unpack(const uint64_t words[28], uint64_t pins[4], uint8_t registers[128], uint64_t rest[5]);
+
+static inline uint32_t ghixramel34_to_image(const struct ghixramel *device, struct ghixramel_image *image)
+{
+    uint64_t rest[5] = {0};
+    return ghixramel_image_rest(ghixramel34_unpack(device->words, image->pins, image->registers, rest), rest, image);
+}
+
+static inline uint32_t ghixramel34_from_image(struct ghixramel *device, const struct ghixramel_image *image)
+{
+    const uint64_t rest[5] = {image->pointer, image->bus, image->choice, image->status, image->line};
+    return ghixramel34_pack(device->words, image->pins, image->registers, rest);
+}
 
 #ifdef __cplusplus
 }
