@@ -18,7 +18,7 @@ objects() { # NAMES..
 
 build() {
     local name watched="checks guarded stack"
-    local host="host $watched images words master refused points refusals broken carried shows plans bursts"
+    local host="host $watched images words master refused points refusals broken carried shows plans bursts sister"
     mkdir -p "$out" || return 1
     for name in $host as_peer plan_lines view_lines burst_lines; do
         compile_c "$out/$name.o" "tests/c/$name.c" || return 1

@@ -4,6 +4,7 @@
 /* By their types, so that a length of 32 bits on a processor of 32 bits stops the compiler. */
 static uint32_t (*const plan)(const uint8_t *, uint64_t, const uint8_t *, uint64_t, uint8_t *, uint64_t, uint64_t *) = ghixramel_plan;
 static uint32_t (*const burst)(struct ghixramel *, const uint8_t *, uint64_t, uint64_t, uint8_t *, uint64_t, uint64_t *) = ghixramel_burst;
+static uint32_t (*const burst34)(struct ghixramel *, const uint8_t *, uint64_t, uint64_t, uint8_t *, uint64_t, uint64_t *) = ghixramel34_burst;
 
 static int views(const struct ghixramel *device)
 {
@@ -40,6 +41,23 @@ static int carried(struct ghixramel *device)
     return ghixramel_from_image(device, &image) == GHIXRAMEL_BAD_IMAGE;
 }
 
+/* The sister's calls link too, and its states are no others'. */
+static int sister(struct ghixramel *device)
+{
+    struct ghixramel_image image = {{0}, {0}, 0, 0, 0, 0, 0};
+    uint64_t drives[2] = {0}, done[1] = {1};
+    uint8_t two[2] = {0}, event[GHIXRAMEL_EVENT_BYTES] = {0};
+    if (ghixramel34_power_on(device, 0, 0x3FFFFFFFF) != GHIXRAMEL_DONE || ghixramel_int(device, two) != GHIXRAMEL_BAD_IMAGE)
+        return 0;
+    if (ghixramel34_step(device, GHIXRAMEL_START, 0, two) != GHIXRAMEL_DONE || ghixramel34_int(device, two) != GHIXRAMEL_DONE)
+        return 0;
+    if (ghixramel34_drives(device, drives) != GHIXRAMEL_DONE || ghixramel34_show(device, 0x6F, two) != GHIXRAMEL_DONE)
+        return 0;
+    if (burst34(device, event, sizeof event, 1, two, sizeof two, done) != GHIXRAMEL_DONE || two[0] != GHIXRAMEL_NOTHING)
+        return 0;
+    return ghixramel34_to_image(device, &image) == GHIXRAMEL_DONE && ghixramel34_from_image(device, &image) == GHIXRAMEL_DONE;
+}
+
 static int planned(void)
 {
     uint8_t start[GHIXRAMEL_SETTING_BYTES] = {0}, goal[GHIXRAMEL_SETTING_BYTES] = {0}, buffer[GHIXRAMEL_PLAN_BYTES] = {0};
@@ -55,5 +73,5 @@ int main(void)
         return 1;
     if (ghixramel_step(&device, GHIXRAMEL_START, 0, answer) != GHIXRAMEL_DONE || answer[0] != GHIXRAMEL_NOTHING)
         return 1;
-    return !(views(&device) && done_in_a_burst(&device) && carried(&device) && planned());
+    return !(views(&device) && done_in_a_burst(&device) && carried(&device) && planned() && sister(&device));
 }

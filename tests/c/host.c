@@ -1,5 +1,5 @@
 /* The library as a host calls it: the rules' worked example and bench points, every refusal, images in and out, the planner over the
- * bus, bursts. A line for each check that failed; the last line is `host: N checks, M failed`. */
+ * bus, bursts, the sister of 34 pins. A line for each check that failed; the last line is `host: N checks, M failed`. */
 #include "checks.h"
 #include "guarded.h"
 #include "host_checks.h"
@@ -14,6 +14,7 @@ int main(void)
     check_shows();
     check_plans();
     check_bursts();
+    check_sister();
     check_stacks();
     return verdict();
 }
