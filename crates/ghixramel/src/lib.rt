@@ -52,6 +52,14 @@ fn power_on(words: &mut [u64; 28], part: u64, choice: u32, levels: u64) -> u32
     DONE
 }
 
+// One event.
+fn step(words: &mut [u64; 28], part: u64, kind: u32, argument: u64, answer: &mut [u8; 2]) -> u32
+    ensures { λ r. ⌜ Told part (now (words .entry)) kind argument r (now (words .exit)) (now (answer .entry)) (now (answer .exit)) ⌝ }
+{
+    let number = words_device::step(words, part, kind, argument);
+    host_words::tell(number, answer)
+}
+
 // The pins driven low and high.
 fn drives(words: &[u64; 28], part: u64, drives: &mut [u64; 2]) -> u32
     ensures { λ r. ⌜ Seen part (now (words .entry)) drivesOf r (now (drives .entry)) (now (drives .exit)) ⌝ }
@@ -170,8 +178,7 @@ pub extern "C" fn ghixramel_step(
 ) -> u32
     ensures { λ r. ⌜ Told 0 (now (words .entry)) kind argument r (now (words .exit)) (now (answer .entry)) (now (answer .exit)) ⌝ }
 {
-    let number = words_device::step(words, PCAL6524, kind, argument);
-    host_words::tell(number, answer)
+    step(words, PCAL6524, kind, argument, answer)
 }
 
 #[no_mangle]
@@ -269,8 +276,7 @@ pub extern "C" fn ghixramel34_step(
 ) -> u32
     ensures { λ r. ⌜ Told 1 (now (words .entry)) kind argument r (now (words .exit)) (now (answer .entry)) (now (answer .exit)) ⌝ }
 {
-    let number = words_device::step(words, PCAL6534, kind, argument);
-    host_words::tell(number, answer)
+    step(words, PCAL6534, kind, argument, answer)
 }
 
 #[no_mangle]

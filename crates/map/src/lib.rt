@@ -1,7 +1,7 @@
 // The register map, part by part: see specs/Map.antt for the groups and proofs/ for what is worked out of them.
 ghost use mathlib.Core.Path.{_≡_};
 ghost use Prim.Native.Nat.{_-_, _^_};
-ghost use Rattle.map.specs.Map.{part24, part34, partOf, Stepping};
+ghost use Rattle.map.specs.Map.{partOf, Stepping};
 
 // The 24-pin part: every pin, the bits that exist in the output port kind, in debounce enable and in debounce count.
 pub const PINS24: u64 = 0xff_ffff;
@@ -168,13 +168,6 @@ pub const NEXT24: [u8; 128] = [
     RESERVED,
 ];
 
-// The same to be lent to a loop: an array that is indexed by its name is built anew at each lookup.
-pub fn next24() -> [u8; 128]
-    ensures { λ r. ⌜ Stepping part24 r ⌝ }
-{
-    NEXT24
-}
-
 // Its sister of 34 pins.
 pub const PINS34: u64 = 0x3_ffff_ffff;
 
@@ -316,12 +309,6 @@ pub const NEXT34: [u8; 128] = [
     RESERVED,
 ];
 
-pub fn next34() -> [u8; 128]
-    ensures { λ r. ⌜ Stepping part34 r ⌝ }
-{
-    NEXT34
-}
-
 // Of both: the last register number.
 pub const LAST_NUMBER: u8 = 0x7f;
 
@@ -335,12 +322,12 @@ pub fn pins_of(part: u64) -> u64
     PINS34
 }
 
-// And its group step.
+// And its group step, to be lent to a loop: an array that is indexed by its name is built anew at each lookup.
 pub fn next_of(part: u64) -> [u8; 128]
     ensures { λ r. ⌜ Stepping (partOf part) r ⌝ }
 {
     if part == 0 {
-        return next24();
+        return NEXT24;
     }
-    next34()
+    NEXT34
 }

@@ -436,13 +436,6 @@ const ROWS24: [u32; 128] = [
     0x00000000,
 ];
 
-// The same to be lent to a loop, where a row is one load: an array that is indexed by its name is built anew at each lookup.
-pub fn rows24() -> [u32; 128]
-    ensures { λ r. ⌜ Rowed part24 r ⌝ }
-{
-    ROWS24
-}
-
 // And of its sister.
 const ROWS34: [u32; 128] = [
     0xff000001,
@@ -575,20 +568,14 @@ const ROWS34: [u32; 128] = [
     0x00000000,
 ];
 
-pub fn rows34() -> [u32; 128]
-    ensures { λ r. ⌜ Rowed part34 r ⌝ }
-{
-    ROWS34
-}
-
-// Those of a part that is given by its number.
+// Those of a part that is given by its number, to be lent to a loop: an array that is indexed by its name is built anew at each lookup.
 pub fn rows_of(part: u64) -> [u32; 128]
     ensures { λ r. ⌜ Rowed (partOf part) r ⌝ }
 {
     if part == 0 {
-        return rows24();
+        return ROWS24;
     }
-    rows34()
+    ROWS34
 }
 
 // The row of a part that is given by its number.

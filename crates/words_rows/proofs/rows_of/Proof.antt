@@ -1,18 +1,20 @@
--- `words_rows::rows_of`: the first part's table, or the sister's. Assumes nothing.
-use borrow.Author.Needs.{needs}
-use mathlib.Core.Path.{sym, subst}
-use Prim.Native.Nat.{ℕ}
-use Rattle.map.specs.Map.{Part, partOf}
+-- `words_rows::rows_of`: each entry of each part's table is what the map gives, the successor left out, which antt computes. Assumes nothing.
+use mathlib.Core.Path.{sym}
+use Rattle.bits.proofs.Decide.{each}
+use Rattle.map.specs.Map.{kindAt, reserved}
 use Rattle.map.proofs.Parts.{sister}
-use Rattle.words_rows.specs.Rows.{Rowed}
+use Rattle.words.specs.Words.{slotAt, digitAt}
+use Rattle.words_rows.specs.Rows.{bareAt}
 use Rattle.words_rows.proofs.rows_of.Statement.{statement}
 use Rattle.words_rows.proofs.rows_of.Tie as tie
 
 returns : tie.Need-returns
-returns c = subst (λ (part : ℕ). Rowed (partOf part) (c .rows24 .result)) (sym (c .before .if1 .taken)) (c .rows24 .ensures)
+unfolding bareAt slotAt digitAt kindAt reserved
+returns c = rw (c .if1 .taken) (each 128 _ _ tt)
 
 returns-2 : tie.Need-returns-2
-returns-2 c = subst (λ (p : Part). Rowed p (c .rows34 .result)) (sister (c .before .before .args .part) (c .before .if1 .left)) (c .rows34 .ensures)
+unfolding bareAt slotAt digitAt kindAt reserved
+returns-2 c = rw (sym (sister (c .before .args .part) (c .if1 .left))) (each 128 _ _ tt)
 
 pub rows-of-spec : {M : Type 1} → statement M
-rows-of-spec = tie.close (tie.spec (λ c κs. search needs) returns (λ c κs. search needs) returns-2)
+rows-of-spec = tie.close (tie.spec returns returns-2)
