@@ -1,22 +1,12 @@
 /* The library and the peer on the same events in one process, taking turns, best of seven each: single steps, then bursts against the
  * peer's single steps; then the planner.
  * Prints lines `step`, `burst`, `plan`: nanoseconds an event or a plan of the library, of the peer, and their ratio. */
-#include "event_bytes.h"
-#include "mix.h"
+#include "given.h"
 #include "peer.h"
 
-#include <ghixramel.h>
 #include <libc.h>
 
-enum { EVENTS = 100000, TIMES_OVER = 10, PAIRS = 10000, ROUNDS = 7, SEED = 1, CHOICE = 2, LEVELS = 0x00F0F0 };
-
-struct pair {
-    uint8_t start[GHIXRAMEL_SETTING_BYTES], goal[GHIXRAMEL_SETTING_BYTES];
-};
-
-static struct event events[EVENTS];
-static uint8_t event_bytes[EVENTS * GHIXRAMEL_EVENT_BYTES];
-static struct pair pairs[PAIRS];
+enum { TIMES_OVER = 10, ROUNDS = 7 };
 
 _Noreturn static void differ(const char *what, size_t place)
 {
@@ -153,11 +143,6 @@ static uint32_t burst_of_peer(void *device, size_t first, size_t count, uint8_t 
     return refused;
 }
 
-static size_t burst_at(size_t first)
-{
-    return EVENTS - first < GHIXRAMEL_MOST_EVENTS ? EVENTS - first : GHIXRAMEL_MOST_EVENTS;
-}
-
 /* Untimed: answers and state after every burst. */
 static void check_bursts(void)
 {
@@ -208,40 +193,6 @@ static void bench_bursts(void)
     printf("burst\t%.2f\t%.2f\t%.2f\n", (double)our_best / steps, (double)peer_best / steps, (double)our_best / (double)peer_best);
 }
 
-static void make_setting(uint8_t setting[GHIXRAMEL_SETTING_BYTES], uint64_t *random)
-{
-    for (int i = 0; i < GHIXRAMEL_SETTING_BYTES; i++)
-        setting[i] = (uint8_t)random_below(random, i == 6 ? 8 : 256);
-}
-
-/* One to three bits of the outputs, the configuration and the pins' kinds, now and then one of 5C. */
-static void move_few_pins(uint8_t setting[GHIXRAMEL_SETTING_BYTES], uint64_t *random)
-{
-    for (uint32_t moves = 1 + random_below(random, 3); moves > 0; moves--) {
-        uint32_t place = random_below(random, GHIXRAMEL_SETTING_BYTES);
-        setting[place] ^= (uint8_t)(1u << random_below(random, place == 6 ? 3 : 8));
-    }
-}
-
-/* Every other goal is random, the others are a few pins away from their start. */
-static void make_pairs(void)
-{
-    uint64_t random = SEED;
-    for (size_t i = 0; i < PAIRS; i++) {
-        make_setting(pairs[i].start, &random);
-        make_setting(pairs[i].goal, &random);
-        if (i % 2 == 0) {
-            memcpy(pairs[i].goal, pairs[i].start, GHIXRAMEL_SETTING_BYTES);
-            move_few_pins(pairs[i].goal, &random);
-        }
-    }
-}
-
-static uint32_t plan(const struct pair *pair, uint8_t buffer[GHIXRAMEL_PLAN_BYTES], uint64_t writes[1])
-{
-    return ghixramel_plan(pair->start, GHIXRAMEL_SETTING_BYTES, pair->goal, GHIXRAMEL_SETTING_BYTES, buffer, GHIXRAMEL_PLAN_BYTES, writes);
-}
-
 static void write_setting(uint8_t setting[GHIXRAMEL_SETTING_BYTES], uint8_t number, uint8_t value)
 {
     static const uint8_t numbers[GHIXRAMEL_SETTING_BYTES] = {0x04, 0x05, 0x06, 0x0C, 0x0D, 0x0E, 0x5C, 0x70, 0x71, 0x72};
@@ -256,7 +207,7 @@ static void check_plans(void)
     for (size_t i = 0; i < PAIRS; i++) {
         uint8_t buffer[GHIXRAMEL_PLAN_BYTES] = {0}, reached[GHIXRAMEL_SETTING_BYTES];
         uint64_t writes[1] = {0};
-        uint32_t refused = plan(&pairs[i], buffer, writes);
+        uint32_t refused = plan_pair(i, buffer, writes);
         if (refused == GHIXRAMEL_NO_QUIET_WAY)
             continue;
         same(refused, GHIXRAMEL_DONE, "refusals of plans", i);
@@ -274,7 +225,7 @@ static int64_t time_plans(uint64_t *sum)
     uint64_t writes[1] = {0};
     int64_t began = now();
     for (size_t i = 0; i < PAIRS; i++) {
-        *sum += plan(&pairs[i], buffer, writes);
+        *sum += plan_pair(i, buffer, writes);
         *sum += writes[0] + buffer[0];
     }
     return now() - began;
@@ -289,16 +240,6 @@ static void bench_plans(void)
         same(sums[round], sums[0], "sums of plans", round);
     }
     printf("plan\t%.2f\t-\t-\n", (double)best / PAIRS);
-}
-
-static void make_events(void)
-{
-    struct mix mix;
-    mix_begin(&mix, SEED, CHOICE, LEVELS);
-    for (size_t i = 0; i < EVENTS; i++) {
-        events[i] = mix_next(&mix);
-        put_event(event_bytes + i * GHIXRAMEL_EVENT_BYTES, events[i].kind, events[i].argument, 0);
-    }
 }
 
 /* The mix, so that a reader sees what was timed. */

@@ -1,0 +1,48 @@
+/* The library's calls, each on what it is timed on: every event a step, then all of them in bursts, then every plan.
+ * bench/count counts the instructions of one call at a time; which one it does not say here. */
+#include "given.h"
+
+#include <libc.h>
+
+/* What a call refuses is counted too, so that none is taken for done. */
+static uint32_t refusals;
+
+static void all_steps(void)
+{
+    struct ghixramel device = {0};
+    uint8_t answer[2] = {0};
+    refusals += ghixramel_power_on(&device, CHOICE, LEVELS);
+    for (size_t i = 0; i < EVENTS; i++)
+        refusals += ghixramel_step(&device, events[i].kind, events[i].argument, answer);
+}
+
+static void all_bursts(void)
+{
+    struct ghixramel device = {0};
+    uint8_t answers[2 * GHIXRAMEL_MOST_EVENTS] = {0};
+    uint64_t done[1] = {0};
+    refusals += ghixramel_power_on(&device, CHOICE, LEVELS);
+    for (size_t first = 0; first < EVENTS; first += GHIXRAMEL_MOST_EVENTS)
+        refusals += ghixramel_burst(&device, event_bytes + first * GHIXRAMEL_EVENT_BYTES, burst_at(first) * GHIXRAMEL_EVENT_BYTES,
+                                    burst_at(first), answers, sizeof answers, done);
+}
+
+/* A pair without a quiet way is a plan too. */
+static void all_plans(void)
+{
+    uint8_t buffer[GHIXRAMEL_PLAN_BYTES] = {0};
+    uint64_t writes[1] = {0};
+    for (size_t i = 0; i < PAIRS; i++)
+        refusals += plan_pair(i, buffer, writes) % GHIXRAMEL_NO_QUIET_WAY;
+}
+
+int main(void)
+{
+    make_events();
+    make_pairs();
+    all_steps();
+    all_bursts();
+    all_plans();
+    printf("%d\t%d\n", EVENTS, PAIRS);
+    return refusals == 0 ? 0 : 1;
+}
