@@ -42,8 +42,8 @@ try_header() { # NAME OPTIONS..
     compile_c "$program.o" tests/c/header.c -pedantic "$@" && link_c "$program" "$program.o" "$library" && "${launch[@]}" "$program"
 }
 
-judge() { # PROGRAM COUNT
-    python3 tests/model/compare.py "$1" "${launch[@]}" "$out/$1" --seed "${SEED:-1}" --count "$2" || bad=1
+judge() { # WHAT PROGRAM COUNT
+    python3 tests/model/compare.py "$1" "${launch[@]}" "$out/$2" --seed "${SEED:-1}" --count "$3" || bad=1
 }
 
 need_library || exit 1
@@ -59,9 +59,9 @@ try_header c++11 -x c++ -std=c++11 || fail "the header as C++11"
 compile_c "$out/header_32.o" tests/c/header.c -m32 || fail "the header for 32 bits"
 
 "${launch[@]}" "$out/host" || bad=1
-judge probe "${IMAGES:-5000}"
-judge trace "${LOGS:-300}"
-judge plan "${PLANS:-500}"
-judge views "${VIEWS:-3000}"
-judge burst "${BURSTS:-2000}"
+judge probe probe "${IMAGES:-5000}"
+judge trace24 trace "${LOGS:-300}"
+judge plan plan "${PLANS:-500}"
+judge views views "${VIEWS:-3000}"
+judge burst burst "${BURSTS:-2000}"
 exit $bad

@@ -33,5 +33,5 @@ wait "$program" 2>/dev/null
 lines=$(head -c 10000000 /dev/zero | tr '\0' 'x' | ./ghixramel trace | wc -l)
 [ "$lines" -eq 2 ] || fail "a long line gave $lines lines, wanted the header and one refusal"
 
-python3 tests/model/compare.py trace ./ghixramel trace --seed "${SEED:-1}" --count "${LOGS:-1000}" || bad=1
+python3 tests/model/compare.py trace24 ./ghixramel trace --seed "${SEED:-1}" --count "${LOGS:-1000}" || bad=1
 exit $bad

@@ -1,10 +1,9 @@
 """Many events in one call: one burst on one state image for each line of standard input."""
 
 import re
-import sys
 
 from device import Device
-from probe import IMAGE_WIDTHS, image_fields, line_form, read_fields
+from probe import IMAGE_WIDTHS, image_fields, line_form, main, read_fields
 from trace import UNREADABLE, split_lines
 
 # An image, the number of events asked, the bytes of room for answers; then the events, whole bytes, perhaps none.
@@ -33,12 +32,12 @@ def answer_bytes(answer):
     return bytes((KINDS[answer], 0) if isinstance(answer, str) else (3, answer))
 
 
-def answer_to(read, device_class=Device):
+def answer_to(which, read, device_class=Device):
     """The answer line to a line read: refusal, events done, all of the room, the image after, a broken one refused."""
     if read is None:
         return UNREADABLE
     image, asked, room, data = read
-    device = device_class(image)
+    device = device_class(which, image)
     number, done, answers = device.burst(data, asked, room)
     told = b''.join(map(answer_bytes, answers))
     after = 'refused\t3' if device.broken else image_fields(device.image())
@@ -47,9 +46,9 @@ def answer_to(read, device_class=Device):
         after)).encode()
 
 
-def run_lines(lines, device_class=Device):
-    return b''.join(answer_to(read_line(line), device_class) for line in split_lines(lines))
+def run_lines(which, lines, device_class=Device):
+    return b''.join(answer_to(which, read_line(line), device_class) for line in split_lines(lines))
 
 
 if __name__ == '__main__':
-    sys.stdout.buffer.write(run_lines(sys.stdin.buffer.read()))
+    main(run_lines)

@@ -1,43 +1,55 @@
-"""The 24-pin I2C expander as the rules state it: one pin at a time, one short function for each rule."""
+"""The 24-pin I2C expander and its 34-pin sister as the rules state them: a pin at a time, a short function a rule."""
 
 from collections import namedtuple
 from functools import lru_cache
 
-PINS = 24
-SET_LIMIT = 1 << PINS
-
 IDLE, OPENED, CHOSEN, FILLING, SENDING, CALL, ARMED, DEAF = range(8)
 START, STOP, BYTE, FETCH, LEVELS, RESET = range(6)
 
-OUTPUT, POLARITY, CONFIGURATION = 0x04, 0x08, 0x0C
-LATCH, MASK, PORT_KIND, EDGE, PIN_KIND = 0x48, 0x54, 0x5C, 0x60, 0x70
+# Numbers from first to last; the bits are those that the last one has, all others have eight.
+Group = namedtuple('Group', 'first last name default stored bits')
 
-Group = namedtuple('Group', 'first last name default stored')
+GROUPS24 = (
+    Group(0x00, 0x02, 'input port', 0x00, False, 0xFF),
+    Group(0x04, 0x06, 'output', 0xFF, True, 0xFF),
+    Group(0x08, 0x0A, 'polarity', 0x00, True, 0xFF),
+    Group(0x0C, 0x0E, 'configuration', 0xFF, True, 0xFF),
+    Group(0x40, 0x45, 'drive strength', 0xFF, True, 0xFF),
+    Group(0x48, 0x4A, 'input latch', 0x00, True, 0xFF),
+    Group(0x4C, 0x4E, 'pull enable', 0x00, True, 0xFF),
+    Group(0x50, 0x52, 'pull select', 0xFF, True, 0xFF),
+    Group(0x54, 0x56, 'interrupt mask', 0xFF, True, 0xFF),
+    Group(0x58, 0x5A, 'interrupt status', 0x00, False, 0xFF),
+    Group(0x5C, 0x5C, 'output port kind', 0x00, True, 0x07),
+    Group(0x60, 0x65, 'interrupt edge', 0x00, True, 0xFF),
+    Group(0x68, 0x6A, 'interrupt clear', 0x00, False, 0xFF),
+    Group(0x6C, 0x6E, 'input status', 0x00, False, 0xFF),
+    Group(0x70, 0x72, 'pin output kind', 0x00, True, 0xFF),
+    Group(0x74, 0x75, 'debounce enable', 0x00, True, 0xFF),
+    Group(0x76, 0x76, 'debounce count', 0x00, True, 0xFF),
+)
 
-GROUPS = (
-    Group(0x00, 0x02, 'input port', 0x00, False),
-    Group(0x04, 0x06, 'output', 0xFF, True),
-    Group(0x08, 0x0A, 'polarity', 0x00, True),
-    Group(0x0C, 0x0E, 'configuration', 0xFF, True),
-    Group(0x40, 0x45, 'drive strength', 0xFF, True),
-    Group(0x48, 0x4A, 'input latch', 0x00, True),
-    Group(0x4C, 0x4E, 'pull enable', 0x00, True),
-    Group(0x50, 0x52, 'pull select', 0xFF, True),
-    Group(0x54, 0x56, 'interrupt mask', 0xFF, True),
-    Group(0x58, 0x5A, 'interrupt status', 0x00, False),
-    Group(0x5C, 0x5C, 'output port kind', 0x00, True),
-    Group(0x60, 0x65, 'interrupt edge', 0x00, True),
-    Group(0x68, 0x6A, 'interrupt clear', 0x00, False),
-    Group(0x6C, 0x6E, 'input status', 0x00, False),
-    Group(0x70, 0x72, 'pin output kind', 0x00, True),
-    Group(0x74, 0x75, 'debounce enable', 0x00, True),
-    Group(0x76, 0x76, 'debounce count', 0x00, True),
+GROUPS34 = (
+    Group(0x00, 0x04, 'input port', 0x00, False, 0x03),
+    Group(0x05, 0x09, 'output', 0xFF, True, 0x03),
+    Group(0x0A, 0x0E, 'polarity', 0x00, True, 0x03),
+    Group(0x0F, 0x13, 'configuration', 0xFF, True, 0x03),
+    Group(0x30, 0x38, 'drive strength', 0xFF, True, 0x0F),
+    Group(0x3A, 0x3E, 'input latch', 0x00, True, 0x03),
+    Group(0x3F, 0x43, 'pull enable', 0x00, True, 0x03),
+    Group(0x44, 0x48, 'pull select', 0xFF, True, 0x03),
+    Group(0x49, 0x4D, 'interrupt mask', 0xFF, True, 0x03),
+    Group(0x4E, 0x52, 'interrupt status', 0x00, False, 0x03),
+    Group(0x53, 0x53, 'output port kind', 0x00, True, 0x1F),
+    Group(0x54, 0x5C, 'interrupt edge', 0x00, True, 0x0F),
+    Group(0x5E, 0x62, 'interrupt clear', 0x00, False, 0x03),
+    Group(0x63, 0x67, 'input status', 0x00, False, 0x03),
+    Group(0x68, 0x6C, 'pin output kind', 0x00, True, 0x03),
+    Group(0x6D, 0x6F, 'debounce', 0x00, True, 0xFF),
 )
 
 # An event of a burst, and how many of them one call may be asked.
 EVENT_BYTES, MOST_EVENTS = 12, 512
-
-TEN = (0x04, 0x05, 0x06, 0x0C, 0x0D, 0x0E, 0x5C, 0x70, 0x71, 0x72)
 
 Image = namedtuple('Image', 'registers level reference held edge pointer bus choice status line')
 
@@ -45,18 +57,41 @@ Image = namedtuple('Image', 'registers level reference held edge pointer bus cho
 ASSERTED, QUIET = 0, 1
 
 
-def number_map(groups):
-    """The group of each command number, None where the number is reserved."""
-    found = [None] * 128
-    for group in groups:
-        for number in range(group.first, group.last + 1):
-            found[number] = group
-    return found
+class Part:
+    """What one part has and the other has otherwise: its pins, its groups, and how many writes a plan may have."""
+
+    def __init__(self, pins, groups, most_writes):
+        self.pins, self.groups, self.most_writes = pins, groups, most_writes
+        self.ports, self.limit = (pins + 7) // 8, 1 << pins
+        self.named = {group.name: group for group in groups}
+        # The group of each command number, None where the number is reserved; the bits that each number has.
+        self.map, self.bits = [None] * 128, [0] * 128
+        for group in groups:
+            for number in range(group.first, group.last + 1):
+                self.map[number] = group
+                self.bits[number] = group.bits if number == group.last else 0xFF
+        (self.output, self.polarity, self.configuration, self.latch, self.mask, self.port_kind, self.edge, self.clear,
+         self.pin_kind) = (self.named[name].first for name in (
+             'output', 'polarity', 'configuration', 'input latch', 'interrupt mask', 'output port kind',
+             'interrupt edge', 'interrupt clear', 'pin output kind'))
+        # The planner's registers in its order; levels as hex digits; whether an argument takes more than one word.
+        self.settings = tuple(number for name in ('output', 'configuration', 'output port kind', 'pin output kind')
+                              for number in range(self.named[name].first, self.named[name].last + 1))
+        self.digits = (pins + 3) // 4
+        self.wide = pins > 32
+
+    def stored_bits(self, number):
+        """The bits of an entry that can be other than 0."""
+        group = self.map[number]
+        return self.bits[number] if group and group.stored else 0
+
+    def power_on(self):
+        """The register file after power-on: what is not stored, and unused bits, hold 0."""
+        return [group.default & self.stored_bits(number) if group else 0 for number, group in enumerate(self.map)]
 
 
-def power_on(numbers):
-    """The register file after power-on: an entry without a stored value holds 0."""
-    return [group.default if group and group.stored else 0 for group in numbers]
+# By the number of their pins.
+PARTS = {24: Part(24, GROUPS24, 16), 34: Part(34, GROUPS34, 26)}
 
 
 def pin_set(marks):
@@ -72,30 +107,34 @@ class Pin:
 
 
 class Device:
-    map = number_map(GROUPS)
+    parts = PARTS
 
-    def __init__(self, image):
+    def __init__(self, which, image):
+        """The part with so many pins in the state of the image."""
+        self.which = which
+        self.part = part = self.parts[which]
+        self.map = part.map
         self.registers = list(image.registers)
         self.pins = [
             Pin(*(bool(marks >> i & 1) for marks in (image.level, image.reference, image.held, image.edge)))
-            for i in range(PINS)
+            for i in range(part.pins)
         ]
         self.pointer, self.bus, self.choice = image.pointer, image.bus, image.choice
-        self.status, self.line = [bool(image.status >> i & 1) for i in range(PINS)], image.line
+        self.status, self.line = [bool(image.status >> i & 1) for i in range(part.pins)], image.line
         # A device loaded from a broken image answers each step with refusal 3.
         self.broken = self.image_broken(image)
         # The drives are worked out again only after something that can move them.
         self.changed = True
 
     @classmethod
-    def make(cls, choice, levels):
+    def make(cls, which, choice, levels):
         """A device at power-on, or refusal 2."""
-        if cls.make_too_large(choice, levels):
+        if cls.make_too_large(which, choice, levels):
             return ('refused', 2)
-        device = cls(Image([0] * 128, levels, 0, 0, 0, 0, IDLE, choice, 0, QUIET))
+        device = cls(which, Image([0] * 128, levels, 0, 0, 0, 0, IDLE, choice, 0, QUIET))
         device.reset()
         # What the reset made is judged as every image is, and not what it was made from.
-        return cls(device.image())
+        return cls(which, device.image())
 
     def image(self):
         return Image(
@@ -108,19 +147,19 @@ class Device:
 
     # Refusals.
 
-    @staticmethod
-    def make_too_large(choice, levels):
-        """Refusal 2 of a new device: choice over 3, levels 2^24 or more."""
-        return choice > 3 or levels >= SET_LIMIT
+    @classmethod
+    def make_too_large(cls, which, choice, levels):
+        """Refusal 2 of a new device: choice over 3, levels with a pin past the last."""
+        return choice > 3 or levels >= cls.parts[which].limit
 
     def image_broken(self, image):
-        """Refusal 3: any one of the nine faults."""
+        """Refusal 3: any one of these faults."""
         return (self.pointer_broken(image.pointer)
                 or self.bus_broken(image.bus)
                 or self.choice_broken(image.choice)
                 or self.pin_sets_broken(image)
-                or self.port_kind_broken(image.registers[PORT_KIND])
-                or any(self.entry_broken(n, image.registers[n]) for n in range(128))
+                or any(self.unused_broken(n, image.registers[n]) or self.entry_broken(n, image.registers[n])
+                       for n in range(128))
                 or self.status_broken(image.status)
                 or self.line_broken(image.line))
 
@@ -137,12 +176,13 @@ class Device:
         return choice > 3
 
     def pin_sets_broken(self, image):
-        """A pin set knows 24 pins."""
-        return any(marks >= SET_LIMIT for marks in (image.level, image.reference, image.held, image.edge))
+        """A pin set knows the part's pins."""
+        return any(marks >= self.part.limit for marks in (image.level, image.reference, image.held, image.edge))
 
-    def port_kind_broken(self, value):
-        """5C has one bit for each of three ports."""
-        return value > 7
+    def unused_broken(self, number, value):
+        """An unused bit of a register is set: of a port kind that is none's, or of the sister's last port."""
+        group = self.map[number]
+        return group is not None and group.stored and value & ~self.part.bits[number] != 0
 
     def entry_broken(self, number, value):
         """A nonzero entry where nothing is stored."""
@@ -172,13 +212,13 @@ class Device:
         return kind > 5
 
     def argument_too_large(self, kind, arg):
-        """Byte over 255, acknowledge bit over 1, levels 2^24 or more; the other kinds ignore it."""
+        """Byte over 255, acknowledge bit over 1, levels with a pin past the last; the other kinds ignore it."""
         if kind == BYTE:
             return arg > 255
         if kind == FETCH:
             return arg > 1
         if kind == LEVELS:
-            return arg >= SET_LIMIT
+            return arg >= self.part.limit
         return False
 
     # Events.
@@ -197,7 +237,7 @@ class Device:
         elif kind == FETCH:
             return self.fetch(arg == 1)
         elif kind == LEVELS:
-            self.levels([bool(arg >> i & 1) for i in range(PINS)])
+            self.levels([bool(arg >> i & 1) for i in range(self.part.pins)])
         else:
             self.reset()
         return '-'
@@ -210,7 +250,8 @@ class Device:
             return 8, None, []
         answers = []
         for place in range(asked):
-            kind, arg, rest = self.words_of(data, place)
+            kind, low, rest = self.words_of(data, place)
+            arg = self.argument_of(low, rest)
             number = self.event_refusal(kind, arg, rest)
             if number is not None:
                 return number, len(answers), answers
@@ -231,20 +272,24 @@ class Device:
         return room < 2 * asked
 
     def words_of(self, data, place):
-        """Kind, argument and what is to be zero, four bytes each, the lowest first."""
+        """Kind, argument and its upper half or what is to be zero, four bytes each, the lowest first."""
         event = data[EVENT_BYTES * place:EVENT_BYTES * (place + 1)]
         return tuple(int.from_bytes(event[i:i + 4], 'little') for i in (0, 4, 8))
 
+    def argument_of(self, low, rest):
+        """The third word is the upper half of the sister's argument."""
+        return low | rest << 32 if self.part.wide else low
+
     def event_refusal(self, kind, arg, rest):
-        """A step's refusals, and after the kind, before the argument, 2 for a third word that is not zero."""
+        """A step's refusals, and after the kind, before the argument, 2 for a third word that is to be zero."""
         number = self.refusal(kind, arg)
         if number in (3, 1):
             return number
         return 2 if self.rest_refused(kind, rest) else number
 
     def rest_refused(self, kind, rest):
-        """Of every kind."""
-        return rest != 0
+        """Of every kind of the 24-pin part."""
+        return not self.part.wide and rest != 0
 
     def start(self):
         """START opens a transaction from any state; the pointer stays."""
@@ -374,7 +419,7 @@ class Device:
             if self.level_sets_edge(i, level):
                 pin.edge = True
             self.take_level(i, level)
-        self.keep('levels', range(PINS))
+        self.keep('levels', range(self.part.pins))
 
     def level_sets_held(self, i, new):
         """A latched input that leaves its reference is held."""
@@ -404,13 +449,13 @@ class Device:
         self.registers = self.reset_registers()
         self.pointer = self.reset_pointer()
         self.bus = self.reset_bus()
-        for i in range(PINS):
+        for i in range(self.part.pins):
             self.reset_pin(i)
-        self.keep('reset', range(PINS))
+        self.keep('reset', range(self.part.pins))
         self.changed = True
 
     def reset_registers(self):
-        return power_on(self.map)
+        return self.part.power_on()
 
     def reset_pointer(self):
         return 0x00
@@ -431,25 +476,30 @@ class Device:
         return self.registers[first + i // 8] >> i % 8 & 1 == 1
 
     def is_input(self, i):
-        return self.bit(CONFIGURATION, i)
+        return self.bit(self.part.configuration, i)
 
     def latched(self, i):
-        return self.bit(LATCH, i)
+        return self.bit(self.part.latch, i)
 
     def masked(self, i):
-        return self.bit(MASK, i)
+        return self.bit(self.part.mask, i)
 
     def inverted(self, i):
-        return self.bit(POLARITY, i)
+        return self.bit(self.part.polarity, i)
 
     def field(self, i):
         """Two bits a pin, four pins a register, the lowest pin in bits 1 and 0."""
-        return self.registers[EDGE + i // 4] >> 2 * (i % 4) & 3
+        return self.registers[self.part.edge + i // 4] >> 2 * (i % 4) & 3
 
     def pins_of(self, number):
-        """The eight pins of a register that has one bit a pin."""
+        """The pins of a register that has one bit a pin: eight, of the sister's last port two."""
         port = number - self.map[number].first
-        return range(8 * port, 8 * port + 8)
+        return range(8 * port, min(8 * port + 8, self.part.pins))
+
+    def field_pins_of(self, number):
+        """The pins of an edge register: four, of the sister's last one two."""
+        first = 4 * (number - self.part.edge)
+        return range(first, min(first + 4, self.part.pins))
 
     # Writes.
 
@@ -457,7 +507,7 @@ class Device:
         """The pins follow the rule of the group, then the value is stored, and their status bits with it."""
         name, pins = self.map[number].name, ()
         if name == 'interrupt edge':
-            pins = range(4 * (number - EDGE), 4 * (number - EDGE) + 4)
+            pins = self.field_pins_of(number)
             for j, i in enumerate(pins):
                 self.field_written(i, value >> 2 * j & 3)
         elif name in ('interrupt clear', 'interrupt mask', 'input latch', 'configuration'):
@@ -481,8 +531,8 @@ class Device:
             self.registers[number] = self.kept(number, value)
 
     def kept(self, number, value):
-        """5C has three bits; bits 3 to 7 are ignored."""
-        return value & 7 if number == PORT_KIND else value
+        """Unused bits are ignored."""
+        return value & self.part.bits[number]
 
     def settle(self, i):
         """No mark is left and the present level is the reference."""
@@ -541,17 +591,17 @@ class Device:
 
     def open_drain(self, i):
         """The pin's own bit flips its port's bit."""
-        return bool(self.registers[PORT_KIND] >> i // 8 & 1) != self.bit(PIN_KIND, i)
+        return bool(self.registers[self.part.port_kind] >> i // 8 & 1) != self.bit(self.part.pin_kind, i)
 
     def drive(self, i):
         if self.is_input(i):
             return 'released'
-        if not self.bit(OUTPUT, i):
+        if not self.bit(self.part.output, i):
             return 'low'
         return 'released' if self.open_drain(i) else 'high'
 
     def drives(self):
-        return [self.drive(i) for i in range(PINS)]
+        return [self.drive(i) for i in range(self.part.pins)]
 
     def input_bit(self, i):
         """Outputs show their level, open-drain ones 0; inputs the held or present level, perhaps inverted."""
@@ -581,7 +631,7 @@ class Device:
 
     def status_bits(self):
         """All of them as the rules work them out, whatever is kept."""
-        return [self.status_bit(i) for i in range(PINS)]
+        return [self.status_bit(i) for i in range(self.part.pins)]
 
     def line_by(self, status):
         """INT is asserted exactly if some status bit is 1."""
@@ -644,21 +694,21 @@ class Device:
         return (self.line,) + self.driven
 
 
-def kept_image(image):
+def kept_image(which, image):
     """The image with the status set and the line that its pins and registers give."""
-    device = Device(image)
+    device = Device(which, image)
     return image._replace(status=pin_set(device.status_bits()), line=device.line_by(device.status_bits()))
 
 
-def settings_image(setting, rest):
-    """The image `rest` with the planner's ten registers set to the ten bytes of `setting`."""
+def settings_image(which, setting, rest):
+    """The image `rest` with the planner's registers set to the bytes of `setting`."""
     registers = list(rest.registers)
-    for number, value in zip(TEN, setting):
+    for number, value in zip(PARTS[which].settings, setting):
         registers[number] = value
-    return kept_image(rest._replace(registers=tuple(registers)))
+    return kept_image(which, rest._replace(registers=tuple(registers)))
 
 
 @lru_cache(maxsize=16)
-def settings_drives(setting):
-    """The drive of each pin under the ten bytes of a setting."""
-    return tuple(Device(settings_image(setting, Device.make(0, 0).image())).drives())
+def settings_drives(which, setting):
+    """The drive of each pin under the bytes of a setting."""
+    return tuple(Device(which, settings_image(which, setting, Device.make(which, 0, 0).image())).drives())

@@ -1,23 +1,42 @@
-"""Seeded generators: trace logs, probe lines, view lines, burst lines and the planner's starts and goals."""
+"""Seeded generators for either part: trace logs, probe, view and burst lines, the planner's starts and goals."""
 
-from device import (ASSERTED, BYTE, CALL, CHOSEN, EVENT_BYTES, FETCH, FILLING, GROUPS, LEVELS, MOST_EVENTS, OPENED, PINS,
-                    QUIET, SENDING, SET_LIMIT, TEN, Device, Image, kept_image, power_on)
+from device import (ASSERTED, BYTE, CALL, CHOSEN, EVENT_BYTES, FETCH, FILLING, LEVELS, MOST_EVENTS, OPENED, PARTS, QUIET,
+                    SENDING, Device, Image, kept_image)
 from probe import WIDTHS, image_fields
 
-RESERVED = [n for n in range(128) if Device.map[n] is None]
-KNOWN = [n for n in range(128) if Device.map[n] is not None]
-UNSTORED = [n for n in range(128) if Device.map[n] is None or not Device.map[n].stored]
-NAMED = {group.name: group for group in GROUPS}
 
-PLAIN = ('drive strength', 'pull enable', 'pull select', 'output port kind', 'debounce enable', 'debounce count')
+def known(which):
+    return [number for number, group in enumerate(PARTS[which].map) if group]
 
-# The groups whose rules meet on one pin come up most.
-MIXED_WRITES = {name: 1 for name in NAMED}
+
+def reserved(which):
+    return [number for number, group in enumerate(PARTS[which].map) if not group]
+
+
+def unstored(which):
+    """The numbers whose entry is 0 in every image that is not broken."""
+    return [number for number in range(128) if PARTS[which].stored_bits(number) == 0]
+
+
+def partly_stored(which):
+    """The numbers that have unused bits: of the 24-pin part the output port kind alone."""
+    return [number for number in range(128) if 0 < PARTS[which].stored_bits(number) < 0xFF]
+
+
+KNOWN, RESERVED, UNSTORED, PARTLY_STORED = (
+    {which: numbers(which) for which in PARTS} for numbers in (known, reserved, unstored, partly_stored))
+
+PLAIN = ('drive strength', 'pull enable', 'pull select', 'output port kind', 'debounce enable', 'debounce count',
+         'debounce')
+
+# The groups whose rules meet on one pin come up most; every group comes up.
+NAMES = sorted({group.name for part in PARTS.values() for group in part.groups})
+MIXED_WRITES = {name: 1 for name in NAMES}
 MIXED_WRITES.update({
     'interrupt mask': 5, 'interrupt edge': 5, 'input latch': 5, 'configuration': 5, 'interrupt clear': 4,
     'polarity': 2, 'output': 2, 'output port kind': 2, 'pin output kind': 2,
 })
-MIXED_READS = {name: 1 for name in NAMED}
+MIXED_READS = {name: 1 for name in NAMES}
 MIXED_READS.update({'input port': 6, 'interrupt status': 4, 'input status': 5, 'interrupt clear': 2})
 
 # Marks live longest where little settles them.
@@ -41,23 +60,45 @@ TEMPERS = (
 )
 
 
-def weighted_group(rng, weights):
-    return NAMED[rng.choices(list(weights), list(weights.values()))[0]]
+def weighted_group(rng, part, weights):
+    """One of the part's groups; it has not all of the names."""
+    names = [name for name in weights if name in part.named]
+    return part.named[rng.choices(names, [weights[name] for name in names])[0]]
+
+
+def device_line(which, choice, levels):
+    return '%s\t%x\t%0*x' % ('device' if which == 24 else 'device34', choice, PARTS[which].digits, levels)
 
 
 class Log:
-    """A log under way: its lines, its address, its levels and the few pins it dwells on."""
+    """A log under way: its lines, its part, its address, its levels and the few pins it dwells on.
 
-    def __init__(self, rng):
-        self.rng = rng
+    Its later devices are of its own part or, where others may come, of any.
+    """
+
+    def __init__(self, rng, which, others):
+        self.rng, self.others = rng, others
         self.lines = []
-        # One pin alone shows its every mark on INT; two or three show that they keep apart.
-        port = rng.randrange(3)
-        self.focus = [8 * port + rng.randrange(8) for _ in range(rng.choice((1, 1, 2)))]
-        if rng.random() < 0.2:
-            self.focus.append(rng.randrange(PINS))
         self.choice, self.levels_now = 0, 0
         self.writes, self.reads, self.weights = rng.choice(TEMPERS)
+        self.be(which)
+
+    def be(self, which):
+        """From now on the device is of this part."""
+        rng, self.which, self.part = self.rng, which, PARTS[which]
+        # One pin alone shows its every mark on INT; two or three show that they keep apart.
+        port = rng.choice((rng.randrange(self.part.ports), rng.randrange(self.part.ports), self.part.ports - 1))
+        there = min(8, self.part.pins - 8 * port)
+        self.focus = [8 * port + rng.randrange(there) for _ in range(rng.choice((1, 1, 2)))]
+        if rng.random() < 0.2:
+            self.focus.append(rng.randrange(self.part.pins))
+
+    def number(self, name, pin=0):
+        """The register of the group that holds the pin."""
+        return self.part.named[name].first + pin // (4 if name == 'interrupt edge' else 8)
+
+    def put_levels(self):
+        self.lines.append('pins\t%0*x' % (self.part.digits, self.levels_now))
 
     def event(self, line):
         """One bus event, now and then with something else after it."""
@@ -74,8 +115,18 @@ class Log:
 
     def device(self):
         self.choice = self.rng.randrange(4)
-        self.levels_now = self.rng.choice((0, SET_LIMIT - 1, self.rng.randrange(SET_LIMIT)))
-        self.lines.append('device\t%x\t%06x' % (self.choice, self.levels_now))
+        self.levels_now = self.rng.choice((0, self.part.limit - 1, self.rng.randrange(self.part.limit)))
+        self.lines.append(device_line(self.which, self.choice, self.levels_now))
+
+    def later_device(self):
+        """A new device, perhaps of the other part: levels in the digits of the one before are unreadable from then on."""
+        before = self.part
+        if self.others:
+            self.be(self.rng.choice(list(PARTS)))
+        self.device()
+        if self.rng.random() < 0.5:
+            self.lines.append('pins\t%0*x' % (before.digits, self.rng.randrange(before.limit)))
+        self.levels()
 
     def start(self, read):
         self.event('start')
@@ -85,14 +136,14 @@ class Log:
         """Mostly the pins dwelt on move, so that their marks come and go."""
         chance = self.rng.random()
         if chance < 0.03:
-            self.levels_now = self.rng.randrange(SET_LIMIT)
+            self.levels_now = self.rng.randrange(self.part.limit)
         elif chance < 0.95:
             self.levels_now ^= 1 << self.rng.choice(self.focus)
-        self.lines.append('pins\t%06x' % self.levels_now)
+        self.put_levels()
 
     def move(self, pin):
         self.levels_now ^= 1 << pin
-        self.lines.append('pins\t%06x' % self.levels_now)
+        self.put_levels()
 
     def register(self, group):
         """Mostly the register of the group that holds a pin dwelt on."""
@@ -104,7 +155,7 @@ class Log:
 
     def value(self, number):
         """Random bits for the pins dwelt on, mostly the default for the others; any byte for a plain register."""
-        group = Device.map[number]
+        group = self.part.map[number]
         if group.name in PLAIN:
             return self.rng.randrange(256)
         base = self.rng.choices((group.default, self.rng.randrange(256), 0x00, 0xFF), (17, 1, 1, 1))[0]
@@ -122,9 +173,9 @@ class Log:
         """A write of one or more registers, sometimes cut short or with a command not known."""
         rng = self.rng
         self.start(0)
-        number = self.register(weighted_group(rng, self.writes))
+        number = self.register(weighted_group(rng, self.part, self.writes))
         if rng.random() < 0.06:
-            self.event('byte\t%02x' % rng.choice((rng.choice(RESERVED), rng.randrange(128, 256), 0x80 | number)))
+            self.event('byte\t%02x' % rng.choice((rng.choice(RESERVED[self.which]), rng.randrange(128, 256), 0x80 | number)))
             for _ in range(rng.randrange(3)):
                 self.event('byte\t%02x' % rng.randrange(256))
             if rng.random() < 0.5:
@@ -134,7 +185,8 @@ class Log:
         self.event('byte\t%02x' % number)
         for _ in range(rng.choices((0, 1, 2, 3, 4, 7), (1, 12, 2, 2, 1, 1))[0]):
             self.event('byte\t%02x' % self.value(number))
-            number = Device.map[number].first if number == Device.map[number].last else number + 1
+            group = self.part.map[number]
+            number = group.first if number == group.last else number + 1
         if rng.random() < 0.2:
             self.event('stop')
 
@@ -143,7 +195,7 @@ class Log:
         rng = self.rng
         if rng.random() < 0.85:
             self.start(0)
-            self.event('byte\t%02x' % self.register(weighted_group(rng, self.reads)))
+            self.event('byte\t%02x' % self.register(weighted_group(rng, self.part, self.reads)))
             if rng.random() < 0.1:
                 self.event('stop')
         self.start(1)
@@ -165,7 +217,7 @@ class Log:
     def hide_and_show(self):
         """A pin moves and one of its registers is written twice, or two are: what was hidden must not come back."""
         rng = self.rng
-        numbers = [self.register(weighted_group(rng, MARK_WRITES)) for _ in range(2)]
+        numbers = [self.register(weighted_group(rng, self.part, MARK_WRITES)) for _ in range(2)]
         if rng.random() < 0.6:
             numbers[1] = numbers[0]
         for _ in range(rng.randrange(3)):
@@ -175,17 +227,16 @@ class Log:
             self.event('byte\t%02x' % number)
             self.event('byte\t%02x' % self.value(number))
             if rng.random() < 0.6:
-                self.look(NAMED['interrupt status'])
+                self.look(self.part.named['interrupt status'])
             if rng.random() < 0.3:
                 self.levels()
         if rng.random() < 0.3:
-            self.look(weighted_group(rng, MARK_READS))
+            self.look(weighted_group(rng, self.part, MARK_READS))
 
     def write_pin(self, name, pin, bits):
         """A write to the register of the group that holds the pin, with these bits for it."""
-        group = NAMED[name]
-        step, place, all_bits = (pin // 4, 2 * (pin % 4), 3) if name == 'interrupt edge' else (pin // 8, pin % 8, 1)
-        number = group.first + step
+        place, all_bits = (2 * (pin % 4), 3) if name == 'interrupt edge' else (pin % 8, 1)
+        number = self.number(name, pin)
         self.start(0)
         self.event('byte\t%02x' % number)
         self.event('byte\t%02x' % (self.value(number) & ~(all_bits << place) | bits << place))
@@ -196,7 +247,7 @@ class Log:
         pin = rng.choice(self.focus)
         self.write_pin('configuration', pin, 0)
         meanwhile = (
-            lambda: self.move(pin), lambda: self.look(NAMED['input port']),
+            lambda: self.move(pin), lambda: self.look(self.part.named['input port']),
             lambda: self.write_pin('interrupt clear', pin, 1),
             lambda: self.write_pin('input latch', pin, rng.choice((0, 1, 1))),
             lambda: self.write_pin('interrupt mask', pin, rng.randrange(2)),
@@ -215,7 +266,7 @@ class Log:
     def read_back(self):
         """Any register written and read again, perhaps with a reset between."""
         rng = self.rng
-        number = rng.choice(KNOWN)
+        number = rng.choice(KNOWN[self.which])
         self.start(0)
         self.event('byte\t%02x' % number)
         for _ in range(rng.randint(1, 3)):
@@ -257,60 +308,78 @@ class Log:
     def stray(self):
         """Events that fit nowhere."""
         rng = self.rng
-        known = [0x00, 0x06, 0xF8, 0xF9] + list(range(0x3E, 0x4A))
+        heard = [0x00, 0x06, 0xF8, 0xF9] + list(range(0x3E, 0x4A))
         for _ in range(rng.randint(1, 4)):
             self.event(rng.choice((
                 'start', 'stop', 'fetch\t0', 'fetch\t1',
-                'byte\t%02x' % rng.randrange(256), 'byte\t%02x' % rng.choice(known))))
+                'byte\t%02x' % rng.randrange(256), 'byte\t%02x' % rng.choice(heard))))
 
     def other_address(self):
         self.event('start')
         self.event('byte\t%02x' % self.rng.choice((0xF8, 0xF9, 0x01, 0x06, self.rng.randrange(0x3E, 0x4A))))
-        self.event('byte\t%02x' % self.rng.choice(KNOWN))
+        self.event('byte\t%02x' % self.rng.choice(KNOWN[self.which]))
         self.event('fetch\t1')
 
     def garbage(self):
         rng = self.rng
-        self.lines.append(rng.choice((
-            '', ' ', '\t', 'start ', ' start', 'START', 'Start', 'start\r', 'stop\r', 'reset\r', 'start\t', '\tstart',
-            'stop\t0', 'reset\t', 'byte', 'byte\t', 'byte\t4', 'byte\t044', 'byte\t4G', 'byte\tFF', 'byte\t0x',
-            'byte\t4 ', 'byte 44', 'byte\t\t44', 'byte\t44\t', 'byte\t44\t44', 'byte\t44\r', 'byte\t-1', 'byte\t+1',
-            'byte\t1_', 'fetch', 'fetch\t', 'fetch\t2', 'fetch\t00', 'fetch\t01', 'fetch\tf', 'fetch\t1\r', 'fetch\t1\t',
-            'pins', 'pins\t', 'pins\t00000', 'pins\t0000000', 'pins\t1000000', 'pins\tABCDEF', 'pins\t00000g',
-            'pins\t000001\r', 'pins\t000001\t', 'pins\t0000 1', 'device', 'device\t0', 'device\t4\t000000',
-            'device\tf\t000000', 'device\t00\t000000', 'device\t2\t1000000', 'device\t2\t00000', 'device\tA\t000000',
-            'device\t2\t00000F', 'device\t2\t000000\t', 'device\t2\t000000\r', 'device\t\t000000', 'device\t2\t',
-            'devices\t2\t000000', 'starts', 'stopp', 'rese', 'answer\tint\tlow\thigh', '\0', 'start\0', '\xff\xfe',
-            'byte\t\xb2\xb2', 'refused\t7', 'x' * 31, 'x' * 32, 'x' * 33, 'start' + ' ' * 27, 'start' + ' ' * 28,
-            'pins\t' + '0' * 27, 'pins\t' + '0' * 28, 'pins\t' + '0' * rng.randint(29, 400),
-            'start' * rng.randint(7, 100), 'byte\t44' * 5, 'z' * 70 + '\tpins\t000001', 'q' * 33 + 'stop',
-            'q' * 32 + 'stop', 'y' * rng.choice((64, 1023, 1024, 4095, 4096, 5000)),
-        )))
+        self.lines.append(rng.choice(rng.choice((GARBAGE, GARBAGE, DIGITS[self.which])) + (
+            'pins\t' + '0' * rng.randint(29, 400), 'start' * rng.randint(7, 100),
+            'y' * rng.choice((64, 1023, 1024, 4095, 4096, 5000)))))
 
     def setting_up(self):
         """Most logs begin with the pins dwelt on unmasked, else INT stays quiet for long."""
         for pin in self.focus:
             self.start(0)
-            self.event('byte\t%02x' % (0x54 + pin // 8))
+            self.event('byte\t%02x' % self.number('interrupt mask', pin))
             self.event('byte\t%02x' % (0xFF & ~(1 << pin % 8)))
             if self.rng.random() < 0.5:
+                edge = self.number('interrupt edge', pin)
                 self.start(0)
-                self.event('byte\t%02x' % (0x60 + pin // 4))
-                self.event('byte\t%02x' % self.value(0x60 + pin // 4))
+                self.event('byte\t%02x' % edge)
+                self.event('byte\t%02x' % self.value(edge))
 
     def go_on(self, length, weights):
         """Acts by chance until the log has so many lines; what an act left in the status is looked at now and then."""
         acts = (self.write, self.hide_and_show, self.turn_around, self.read, self.levels, self.read_back,
-                self.general_call, self.stray, self.other_address, self.garbage, self.hard_reset, self.device)
+                self.general_call, self.stray, self.other_address, self.garbage, self.hard_reset, self.later_device)
         while len(self.lines) < length:
             self.rng.choices(acts, weights)[0]()
             if self.rng.random() < 0.3:
-                self.look(NAMED['interrupt status'])
+                self.look(self.part.named['interrupt status'])
 
 
-def trace_log(rng, alone=False):
+# Lines that no session can read.
+GARBAGE = (
+    '', ' ', '\t', 'start ', ' start', 'START', 'Start', 'start\r', 'stop\r', 'reset\r', 'start\t', '\tstart',
+    'stop\t0', 'reset\t', 'byte', 'byte\t', 'byte\t4', 'byte\t044', 'byte\t4G', 'byte\tFF', 'byte\t0x',
+    'byte\t4 ', 'byte 44', 'byte\t\t44', 'byte\t44\t', 'byte\t44\t44', 'byte\t44\r', 'byte\t-1', 'byte\t+1',
+    'byte\t1_', 'fetch', 'fetch\t', 'fetch\t2', 'fetch\t00', 'fetch\t01', 'fetch\tf', 'fetch\t1\r', 'fetch\t1\t',
+    'pins', 'pins\t', 'pins\t00000', 'pins\t0000000', 'pins\t1000000', 'pins\tABCDEF', 'pins\t00000g',
+    'pins\t000001\r', 'pins\t000001\t', 'pins\t0000 1', 'device', 'device\t0', 'device\t4\t000000',
+    'device\tf\t000000', 'device\t00\t000000', 'device\t2\t1000000', 'device\t2\t00000', 'device\tA\t000000',
+    'device\t2\t00000F', 'device\t2\t000000\t', 'device\t2\t000000\r', 'device\t\t000000', 'device\t2\t',
+    'devices\t2\t000000', 'starts', 'stopp', 'rese', 'answer\tint\tlow\thigh', '\0', 'start\0', '\xff\xfe',
+    'byte\t\xb2\xb2', 'refused\t7', 'x' * 31, 'x' * 32, 'x' * 33, 'start' + ' ' * 27, 'start' + ' ' * 28,
+    'pins\t' + '0' * 27, 'pins\t' + '0' * 28, 'byte\t44' * 5, 'z' * 70 + '\tpins\t000001', 'q' * 33 + 'stop',
+    'q' * 32 + 'stop', 'pins\t00000001', 'pins\t0000000001', 'pins\t0000000g1', 'pins\t00000000A',
+    'pins\t000000001\r', 'pins\t000000001\t', 'device34', 'device34\t0', 'device34\t4\t000000000',
+    'device34\t2\t000000', 'device34\t2\t00000000', 'device34\t2\t0000000000', 'device34\t2\t400000000',
+    'device34\t0\tfffffffff', 'device34\t1\t800000000', 'device34\t00\t000000000', 'device34\t2\t00000000F',
+    'device34\t2\t000000000\t', 'device34\t2\t000000000\r', 'device34\t\t000000000', 'device34 2 000000000',
+    'device\t2\t000000000', 'device24\t2\t000000', 'device340\t2\t000000000', 'device3\t2\t000000000',
+    'Device34\t2\t000000000', 'device34\tA\t000000000', 'device\t34\t000000000', 'device\t2\tfffffffff',
+)
+# And those that the other part could, or that have more pins than digits tell.
+DIGITS = {
+    24: ('pins\t000000001', 'pins\t000ffffff', 'pins\t3ffffffff', 'pins\t000000000'),
+    34: ('pins\t000001', 'pins\tffffff', 'pins\t000000', 'pins\t400000000', 'pins\tfffffffff', 'pins\t400000001',
+         'pins\t800000000'),
+}
+
+
+def trace_log(rng, which, alone=False, others=True):
     """A log of some 60 to 350 lines; alone, it may begin before a device, be empty, or lack its last newline."""
-    log = Log(rng)
+    log = Log(rng, which, others)
     if alone:
         if rng.random() < 0.1:
             return b''
@@ -329,9 +398,9 @@ def trace_log(rng, alone=False):
     return ('\n'.join(log.lines) + end).encode('latin-1')
 
 
-def long_log(rng, length):
+def long_log(rng, which, length):
     """A log of so many lines or a few more, all of one device from its power-on."""
-    log = Log(rng)
+    log = Log(rng, which, False)
     log.device()
     log.go_on(length, log.weights[:-1] + (0,))
     return ('\n'.join(log.lines) + '\n').encode('latin-1')
@@ -339,26 +408,27 @@ def long_log(rng, length):
 
 # Probe lines.
 
-def random_marks(rng, focus):
+def random_marks(rng, which, focus):
     """Few, all, none or random pins, and the pins dwelt on by chance."""
-    marks = rng.choice((0, SET_LIMIT - 1, rng.randrange(SET_LIMIT), rng.randrange(SET_LIMIT)))
+    limit = PARTS[which].limit
+    marks = rng.choice((0, limit - 1, rng.randrange(limit), rng.randrange(limit)))
     for pin in focus:
         marks ^= rng.randrange(2) << pin
     return marks
 
 
-def random_registers(rng):
+def random_registers(rng, which):
     """Defaults, or random bytes in the stored registers."""
-    registers = power_on(Device.map)
+    part = PARTS[which]
+    registers = part.power_on()
     share = rng.choice((0.1, 0.5, 1, 1))
-    for n in KNOWN:
-        if Device.map[n].stored and rng.random() < share:
-            registers[n] = rng.choice((rng.randrange(256), rng.randrange(256), 0x00, 0xFF))
-    registers[0x5C] &= 7
+    for n in KNOWN[which]:
+        if part.map[n].stored and rng.random() < share:
+            registers[n] = rng.choice((rng.randrange(256), rng.randrange(256), 0x00, 0xFF)) & part.bits[n]
     return registers
 
 
-def meant_event(rng, bus, choice):
+def meant_event(rng, which, bus, choice):
     """An event that means something in this bus state."""
     kind = rng.choices(range(6), (1, 1, 6, 4, 4, 1))[0]
     if bus in (FILLING, CHOSEN, OPENED, CALL) and rng.random() < 0.6:
@@ -370,13 +440,14 @@ def meant_event(rng, bus, choice):
         if bus == OPENED:
             arg = rng.choice((arg, 0x40 + 2 * choice, 0x41 + 2 * choice, 0x00, rng.randrange(0x3E, 0x4A), 0xF8, 0xF9))
         elif bus == CHOSEN:
-            arg = rng.choice((arg, rng.choice(KNOWN), rng.choice(RESERVED), 0x80 | rng.choice(KNOWN)))
+            known_number = rng.choice(KNOWN[which])
+            arg = rng.choice((arg, known_number, rng.choice(RESERVED[which]), 0x80 | known_number))
         elif bus == CALL:
             arg = rng.choice((arg, 0x06))
     elif kind == FETCH:
         arg = rng.randrange(2)
     elif kind == LEVELS:
-        arg = rng.choice((rng.randrange(SET_LIMIT), 0, SET_LIMIT - 1))
+        arg = rng.choice((rng.randrange(PARTS[which].limit), 0, PARTS[which].limit - 1))
     else:
         arg = rng.choice((0, 1, rng.randrange(1 << 64)))
     return kind, arg
@@ -388,39 +459,47 @@ def over(rng, limit, top):
     return rng.choice([limit, limit + 1, top - 1, rng.randrange(limit, top)] + shifts)
 
 
-def broken_image(rng, image):
+def broken_image(rng, which, image):
     """The image with one of refusal 3's faults, and no other: status and line fit the rest, or only they do not."""
-    registers = list(image.registers)
+    part, registers = PARTS[which], list(image.registers)
     way = rng.randrange(13)
     if way == 0:
-        return image._replace(pointer=rng.choice(RESERVED))
+        return image._replace(pointer=rng.choice(RESERVED[which]))
     if way == 1:
-        return image._replace(pointer=rng.choice((0x7F, over(rng, 0x80, 256), 0x80 | rng.choice(KNOWN))))
+        return image._replace(pointer=rng.choice((0x7F, over(rng, 0x80, 256), 0x80 | rng.choice(KNOWN[which]))))
     if way == 2:
         return image._replace(bus=over(rng, 8, 256))
     if way == 3:
         return image._replace(choice=over(rng, 4, 256))
     if way == 4:
         name = rng.choice(('level', 'reference', 'held', 'edge'))
-        return kept_image(image._replace(**{name: over(rng, SET_LIMIT, 1 << 64)}))
+        return kept_image(which, image._replace(**{name: over(rng, part.limit, 1 << 64)}))
     if way == 5:
-        registers[0x5C] = rng.choice((8, registers[0x5C] | 8, 255, rng.randrange(8, 256)))
+        number = rng.choice(PARTLY_STORED[which] + [part.port_kind])
+        unused = 0xFF & ~part.bits[number]
+        registers[number] |= rng.choice((unused & -unused, unused, rng.randrange(1, 256) & unused or unused))
+        if rng.random() < 0.5:
+            registers[number] &= unused
     elif way == 6:
-        registers[rng.choice(UNSTORED)] = rng.choice((1, 0x80, rng.randrange(1, 256)))
+        registers[rng.choice(UNSTORED[which])] = rng.choice((1, 0x80, rng.randrange(1, 256)))
     elif way == 7:
-        registers[rng.choice((0x00, 0x03, 0x5D, 0x5A, 0x68, 0x6E, 0x73, 0x77, 0x7F))] = rng.randrange(1, 256)
+        group = rng.choice([group for group in part.groups if not group.stored])
+        registers[rng.choice((group.first, group.last, part.clear, 0x77, 0x7F))] = rng.randrange(1, 256)
     else:
-        return wrongly_kept(rng, image, way - 8)
-    return image._replace(registers=tuple(registers))
+        return wrongly_kept(rng, which, image, way - 8)
+    # Bits that are cleared may move status and line.
+    return kept_image(which, image._replace(registers=tuple(registers)))
 
 
-def wrongly_kept(rng, image, way):
+def wrongly_kept(rng, which, image, way):
     """The image with a status bit too many or too few, one past the pins, another line, or both as of another moment."""
-    flipped = image.status ^ 1 << rng.randrange(PINS)
+    pins = PARTS[which].pins
+    asking = [pin for pin in range(pins) if image.status >> pin & 1]
+    flipped = image.status ^ 1 << rng.choice((rng.randrange(pins), rng.choice(asking or [0])))
     if way == 0:
         return image._replace(status=flipped)
     if way == 1:
-        return image._replace(status=image.status | 1 << rng.choice((PINS, 63, rng.randrange(PINS, 64))))
+        return image._replace(status=image.status | 1 << rng.choice((pins, 63, rng.randrange(pins, 64))))
     if way == 2:
         return image._replace(line=QUIET if image.line == ASSERTED else ASSERTED)
     if way == 3:
@@ -458,31 +537,51 @@ def spoiled_line(rng, line):
     return b'\t'.join(fields)
 
 
-def sound_image(rng, focus, pointer, bus):
-    return kept_image(Image(tuple(random_registers(rng)), *(random_marks(rng, focus) for _ in range(4)),
-                            pointer, bus, rng.randrange(4), 0, QUIET))
+def unmask_few(which, registers, pins):
+    """All other pins masked, so that what these do shows on INT."""
+    part = PARTS[which]
+    for port in range(part.ports):
+        registers[part.mask + port] = part.bits[part.mask + port]
+    for pin in pins:
+        registers[part.mask + pin // 8] &= ~(1 << pin % 8)
 
 
-def image_line(rng):
+def sound_image(rng, which, pointer, bus):
+    """A well-formed image; a few pins and, of the sister, the last port's differ most from one to the next."""
+    pins = PARTS[which].pins
+    focus = [rng.randrange(pins), rng.randrange(pins), pins - 1 - rng.randrange(2)]
+    registers = random_registers(rng, which)
+    if rng.random() < 0.3:
+        unmask_few(which, registers, focus[:rng.randint(1, 3)])
+    return kept_image(which, Image(tuple(registers),
+                                   *(random_marks(rng, which, focus) for _ in range(4)),
+                                   pointer, bus, rng.randrange(4), 0, QUIET))
+
+
+def argument_limits(which):
+    """The first argument that is refused, of the kinds that look at theirs."""
+    return {BYTE: 256, FETCH: 2, LEVELS: PARTS[which].limit}
+
+
+def image_line(rng, which):
     """A probe line with its newline: mostly a well-formed image and a fitting event."""
-    focus = [rng.randrange(PINS) for _ in range(3)]
+    named = PARTS[which].named
     bus = rng.choices(range(8), (1, 2, 2, 8, 5, 1, 2, 1))[0]
-    number = rng.choice(KNOWN)
+    number = rng.choice(KNOWN[which])
     if bus == FILLING and rng.random() < 0.7:
-        group = NAMED[rng.choice(list(MARK_WRITES))]
+        group = named[rng.choice(list(MARK_WRITES))]
         number = rng.randint(group.first, group.last)
     if bus == SENDING and rng.random() < 0.6:
-        group = NAMED[rng.choice(('input port', 'input status', 'interrupt status'))]
+        group = named[rng.choice(('input port', 'input status', 'interrupt status'))]
         number = rng.randint(group.first, group.last)
-    image = sound_image(rng, focus, number, bus)
-    kind, arg = meant_event(rng, bus, image.choice)
+    image = sound_image(rng, which, number, bus)
+    kind, arg = meant_event(rng, which, bus, image.choice)
     if rng.random() < 0.16:
-        image = broken_image(rng, image)
+        image = broken_image(rng, which, image)
     if rng.random() < 0.06:
         kind, arg = over(rng, 6, 1 << 32), rng.choice((0, arg, rng.randrange(1 << 64)))
     elif rng.random() < 0.1:
-        kind = rng.choice((BYTE, FETCH, LEVELS))
-        limit = {BYTE: 256, FETCH: 2, LEVELS: SET_LIMIT}[kind]
+        kind, limit = rng.choice(list(argument_limits(which).items()))
         arg = rng.choice((limit - 1, over(rng, limit, 1 << 64)))
     line = ('%s\t%0*x\t%0*x' % (image_fields(image), WIDTHS[-2], kind, WIDTHS[-1], arg)).encode()
     if rng.random() < 0.04:
@@ -492,18 +591,19 @@ def image_line(rng):
 
 # View lines.
 
-def register_number(rng):
+def register_number(rng, which):
     """Mostly a known number; else reserved, 80h to FFh, or larger and known in its low byte."""
-    larger = over(rng, 0x100, 1 << 32) & ~0xFF | rng.choice(KNOWN)
-    return rng.choices((rng.choice(KNOWN), rng.choice(RESERVED), rng.randrange(0x80, 0x100), larger), (5, 1, 1, 1))[0]
+    known_number = rng.choice(KNOWN[which])
+    larger = over(rng, 0x100, 1 << 32) & ~0xFF | known_number
+    return rng.choices((known_number, rng.choice(RESERVED[which]), rng.randrange(0x80, 0x100), larger), (5, 1, 1, 1))[0]
 
 
-def view_line(rng):
+def view_line(rng, which):
     """An image and a register number with their newline: two images in three are well formed."""
-    image = sound_image(rng, [rng.randrange(PINS) for _ in range(3)], rng.choice(KNOWN), rng.randrange(8))
+    image = sound_image(rng, which, rng.choice(KNOWN[which]), rng.randrange(8))
     if rng.random() < 0.33:
-        image = broken_image(rng, image)
-    line = ('%s\t%08x' % (image_fields(image), register_number(rng))).encode()
+        image = broken_image(rng, which, image)
+    line = ('%s\t%08x' % (image_fields(image), register_number(rng, which))).encode()
     if rng.random() < 0.04:
         line = spoiled_line(rng, line)
     return line + b'\n'
@@ -520,29 +620,36 @@ def event_bytes(kind, arg, rest):
     return b''.join(word.to_bytes(4, 'little') for word in (kind, arg, rest))
 
 
-def meant_events(rng, image, count):
+WORD = 0xFFFFFFFF
+
+
+def meant_events(rng, which, image, count):
     """Events that mean something, each in the bus state that those before it lead to."""
-    device = Device(image)
+    device = Device(which, image)
     events = []
     for _ in range(count):
-        kind, arg = meant_event(rng, device.bus, device.choice)
-        events.append((kind, arg & 0xFFFFFFFF, 0))
-        device.step(*events[-1][:2])
+        kind, arg = meant_event(rng, which, device.bus, device.choice)
+        events.append((kind, arg & WORD, arg >> 32 if device.part.wide else 0))
+        device.step(kind, arg)
     return events
 
 
-def refused_event(rng, event):
+def refused_event(rng, which, event):
     """The event with a kind, an argument or a third word that is refused, perhaps with two of them."""
-    kind, arg, rest = event
+    kind, low, rest = event
     way = rng.randrange(5)
     if way == 0:
-        return over(rng, 6, 1 << 32), rng.choice((0, arg, 0xFFFFFFFF)), 0
+        return over(rng, 6, 1 << 32), rng.choice((0, low, WORD)), rng.choice((0, rest))
     if way == 1:
-        return over(rng, 6, 1 << 32), arg, over(rng, 1, 1 << 32)
-    if way == 2:
-        kind = rng.choice((BYTE, FETCH, LEVELS))
-        return kind, over(rng, {BYTE: 256, FETCH: 2, LEVELS: SET_LIMIT}[kind], 1 << 32), rng.choice((0, 0, 1))
-    return rng.choice((kind, rng.randrange(6))), rng.choice((0, arg & 1)), over(rng, 1, 1 << 32)
+        return over(rng, 6, 1 << 32), low, over(rng, 1, 1 << 32)
+    if way == 2 or PARTS[which].wide:
+        kind, limit = rng.choice(list(argument_limits(which).items()))
+        arg = over(rng, limit, 1 << 64 if PARTS[which].wide else 1 << 32)
+        # Of the sister also numbers that would pass without their upper half.
+        if PARTS[which].wide and rng.random() < 0.5:
+            arg = over(rng, max(1, limit >> 32), 1 << 32) << 32 | rng.choice((0, 1))
+        return kind, arg & WORD, arg >> 32 if PARTS[which].wide else rng.choice((0, 0, 1))
+    return rng.choice((kind, rng.randrange(6))), rng.choice((0, low & 1)), over(rng, 1, 1 << 32)
 
 
 def burst_of_eight(rng, data, asked, room):
@@ -561,15 +668,15 @@ def burst_of_eight(rng, data, asked, room):
     return data or bytes(EVENT_BYTES), asked, rng.choice((2 * asked - 1, asked, 0, rng.randrange(2 * asked)))
 
 
-def burst_line(rng):
+def burst_line(rng, which):
     """A burst line with its newline: half of the bursts are done whole, the others refused at some event or with 8."""
-    image = sound_image(rng, [rng.randrange(PINS) for _ in range(3)], rng.choice(KNOWN), rng.randrange(8))
+    image = sound_image(rng, which, rng.choice(KNOWN[which]), rng.randrange(8))
     count = rng.choices(BURST_SIZES, BURST_WEIGHTS)[0]
     count = rng.choice(LONGEST_BURSTS) if rng.random() < 0.02 else rng.randint(count // 2, count)
-    events = meant_events(rng, image, count)
+    events = meant_events(rng, which, image, count)
     if events and rng.random() < 0.4:
         place = rng.choice((0, count - 1, rng.randrange(count)))
-        events[place] = refused_event(rng, events[place])
+        events[place] = refused_event(rng, which, events[place])
     data = b''.join(event_bytes(*event) for event in events)
     # Where more are given than may be asked, as many as may be, or one more.
     whole_or_part = (count, count, rng.randint(0, count))
@@ -578,7 +685,7 @@ def burst_line(rng):
     if rng.random() < 0.2:
         data, asked, room = burst_of_eight(rng, data, asked, room)
     if rng.random() < 0.12:
-        image = broken_image(rng, image)
+        image = broken_image(rng, which, image)
         if rng.random() < 0.3:
             asked = 0
     line = ('%s\t%016x\t%04x\t%s' % (image_fields(image), asked, room, data.hex())).encode()
@@ -587,82 +694,113 @@ def burst_line(rng):
     return line + b'\n'
 
 
-# The planner's starts and goals: ten bytes in the order of TEN.
+# The planner's starts and goals: a byte for each of the part's registers, outputs, configurations, port kind, pin kinds.
 
-def random_setting(rng):
-    setting = bytearray(rng.choice((rng.randrange(256), rng.randrange(256), 0x00, 0xFF)) for _ in TEN)
-    setting[6] = rng.randrange(8)
-    return setting
+def random_setting(rng, which):
+    part = PARTS[which]
+    return bytearray(rng.choice((rng.randrange(256), rng.randrange(256), 0x00, 0xFF)) & part.bits[number]
+                     for number in part.settings)
 
 
-def few_bits_moved(rng, setting):
-    moved = bytearray(setting)
+def few_bits_moved(rng, which, setting):
+    part, moved = PARTS[which], bytearray(setting)
     for _ in range(rng.randint(1, 5)):
-        place = rng.randrange(len(TEN))
-        moved[place] ^= 1 << rng.randrange(3 if place == 6 else 8)
+        place = rng.randrange(len(moved))
+        moved[place] ^= 1 << rng.randrange(part.bits[part.settings[place]].bit_length())
     return moved
 
 
-def setting_pair(rng):
+def setting_pair(rng, which):
     """A start and a goal, well formed, of one of several tempers."""
-    start, goal = random_setting(rng), random_setting(rng)
+    part, ports = PARTS[which], PARTS[which].ports
+    directions, port_kind, pin_kinds = slice(ports, 2 * ports), 2 * ports, 2 * ports + 1
+    start, goal = random_setting(rng, which), random_setting(rng, which)
     temper = rng.randrange(9)
     if temper == 0:
-        goal = few_bits_moved(rng, start)
+        goal = few_bits_moved(rng, which, start)
     elif temper == 1:
-        start[3:6] = goal[3:6] = b'\xff' * 3
+        start[directions] = goal[directions] = bytes(part.bits[number] for number in part.settings[directions])
     elif temper == 2:
-        start[3:6] = goal[3:6] = bytes(3)
+        start[directions] = goal[directions] = bytes(ports)
     elif temper == 3:
-        goal[6] = start[6] ^ rng.randint(1, 7)
+        goal[port_kind] = start[port_kind] ^ rng.randrange(1, 1 << ports)
     elif temper == 4:
-        goal[6] = start[6]
+        goal[port_kind] = start[port_kind]
     elif temper == 5:
         # No pin of a port whose kind changes is high at both ends, else most random pairs are hopeless.
-        for port in range(3):
-            goal[port] &= ~start[port] | start[3 + port] | goal[3 + port]
+        for port in range(ports):
+            goal[port] &= ~start[port] | start[ports + port] | goal[ports + port]
     elif temper == 6:
         # One pin high at both ends while its port's bit changes; the others out of the way, or not.
-        pin = rng.randrange(PINS)
+        pin = rng.randrange(part.pins)
         port, bit = pin // 8, 1 << pin % 8
-        for k in range(3):
+        for k in range(ports):
             goal[k] &= ~start[k] & 0xFF
-        goal[6] = start[6] ^ 1 << port
+        goal[port_kind] = start[port_kind] ^ 1 << port
         for setting in (start, goal):
             setting[port] |= bit
-            setting[3 + port] &= ~bit
-            setting[7 + port] = setting[7 + port] & ~bit | (bit if setting[6] >> port & 1 else 0)
+            setting[ports + port] &= ~bit
+            kind = bit if setting[port_kind] >> port & 1 else 0
+            setting[pin_kinds + port] = setting[pin_kinds + port] & ~bit | kind
         if rng.random() < 0.5:
-            rng.choice((start, goal))[rng.choice((0, 7)) + port] ^= bit
+            rng.choice((start, goal))[rng.choice((0, pin_kinds)) + port] ^= bit
     elif temper == 7:
         goal = bytearray(start)
     return bytes(start), bytes(goal)
 
 
-def malformed_pair(rng):
-    """A start and a goal of whole bytes, at least one of them of another length or with 5C over 7."""
-    ends = [random_setting(rng), random_setting(rng)]
+def malformed_pair(rng, which):
+    """A start and a goal of whole bytes, at least one of them of another length or with an unused bit set."""
+    part = PARTS[which]
+    whole = len(part.settings)
+    unused = [place for place, number in enumerate(part.settings) if part.bits[number] != 0xFF]
+    lengths = sorted({1, whole - 1, whole + 1, 2 * whole} | {len(other.settings) for other in PARTS.values()} - {whole})
+    ends = [random_setting(rng, which), random_setting(rng, which)]
     for place in rng.choice(((0,), (1,), (0, 1))):
         if rng.random() < 0.5:
-            ends[place][6] = rng.choice((8, 255, rng.randrange(8, 256)))
+            at = rng.choice(unused)
+            free = 0xFF & ~part.bits[part.settings[at]]
+            ends[place][at] |= rng.choice((free & -free, free, rng.randrange(256) & free or free))
         else:
-            length = rng.choice((1, 9, 11, 20, rng.randint(1, 9), rng.randint(11, 40)))
+            length = rng.choice(lengths + [rng.randint(1, whole - 1), rng.randint(whole + 1, 40)])
             ends[place] = (ends[place] * 4)[:length]
     return bytes(ends[0]), bytes(ends[1])
 
 
-def one_pin_pairs():
+def one_pin_pairs(which):
     """All starts and goals in which one pin's four bits vary; the others are inputs, output 1, kind 0."""
-    for pin in range(PINS):
+    part, ports = PARTS[which], PARTS[which].ports
+    for pin in range(part.pins):
         port, bit = pin // 8, 1 << pin % 8
         settings = []
         for bits in range(16):
-            setting = bytearray([0xFF] * 6 + [0] * 4)
+            setting = bytearray(part.bits[number] for number in part.settings[:2 * ports]) + bytearray(1 + ports)
             setting[port] ^= bit * (bits & 1)
-            setting[3 + port] ^= bit * (bits >> 1 & 1)
-            setting[6] = (bits >> 2 & 1) << port
-            setting[7 + port] = bit * (bits >> 3)
+            setting[ports + port] ^= bit * (bits >> 1 & 1)
+            setting[2 * ports] = (bits >> 2 & 1) << port
+            setting[2 * ports + 1 + port] = bit * (bits >> 3)
             settings.append(bytes(setting))
         for start in settings:
             for goal in settings:
                 yield start, goal
+
+
+def plan_room(rng, which):
+    """Room at and around the longest plan of either part, or any."""
+    rooms = [2 * part.most_writes + more for part in PARTS.values() for more in (-1, 0, 1)]
+    return rng.choice(rooms + [2 * PARTS[which].most_writes] * 3 + [0, rng.randrange(64)])
+
+
+def padded_plan(rng, which):
+    """A start, a goal and a right plan but for its length, which is at a limit or near it: all pins stay inputs."""
+    part = PARTS[which]
+    start = bytearray(part.bits[n] if part.map[n].name in ('output', 'configuration') else 0 for n in part.settings)
+    goal, port = bytearray(start), rng.randrange(part.ports - 1)
+    most = rng.choice([other.most_writes for other in PARTS.values()]) + rng.choice((-1, 0, 1))
+    # One or two writes that are wanted, and the rest there and back.
+    writes = [(part.pin_kind + part.ports - 1 - n, 1) for n in range(2 - most % 2)]
+    for number, value in writes:
+        goal[part.settings.index(number)] = value
+    there_and_back = [(part.output + port, 0x7F), (part.output + port, 0xFF)]
+    writes = there_and_back * ((most - len(writes)) // 2) + writes
+    return bytes(start), bytes(goal), 'plan' + ''.join('\t%02x%02x' % write for write in writes)

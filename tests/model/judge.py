@@ -4,25 +4,19 @@ import random
 import re
 from functools import lru_cache
 
-from device import BYTE, PINS, PORT_KIND, QUIET, START, TEN, Device, Image, power_on, settings_drives, settings_image
+from device import BYTE, PARTS, QUIET, START, Device, Image, settings_drives, settings_image
 
-MOST_WRITES = 16
 RESTS = 3
 
 ANSWER_PLAN = re.compile(r'plan((?:\t[0-9a-f]{4})*)')
 ANSWER_REFUSED = re.compile(r'refused\t([0-9]+)')
 
 
-def well_formed(setting):
-    """Ten bytes, and 5C knows three ports."""
-    return len(setting) == len(TEN) and setting[TEN.index(PORT_KIND)] <= 7
-
-
 # Whether any quiet list of writes exists.
 #
 # A write gives a whole register any value, so it can move one pin's bit and leave the other
-# bits of the register as they are: every bit of 04-06, 0C-0E and 70-72 can be moved alone, and
-# each port's bit in 5C can be moved alone too. A write that moves several bits at once is no
+# bits of the register as they are: every bit of output, configuration and pin output kind can be
+# moved alone, and each port's kind can be moved alone too. A write that moves several bits at once is no
 # more than some of those moves at one moment. A pin's drive depends only on its own three bits
 # and its port's bit. So the pins of one port share nothing but the moments at which the port's
 # bit flips, and the ports share nothing at all: a quiet list exists exactly if for each port
@@ -33,9 +27,11 @@ def well_formed(setting):
 @lru_cache(maxsize=None)
 def drive(output, configuration, kind, port_bit):
     """The drive of a pin by its four bits, asked of the model device."""
-    registers = power_on(Device.map)
-    registers[0x04], registers[0x0C], registers[0x70], registers[0x5C] = output, configuration, kind, port_bit
-    return Device(Image(registers, 0, 0, 0, 0, 0, 0, 0, 0, QUIET)).drive(0)
+    part = PARTS[24]
+    registers = part.power_on()
+    registers[part.output], registers[part.configuration] = output, configuration
+    registers[part.pin_kind], registers[part.port_kind] = kind, port_bit
+    return Device(24, Image(registers, 0, 0, 0, 0, 0, 0, 0, 0, QUIET)).drive(0)
 
 
 def move_allowed(start, goal, before, after):
@@ -86,27 +82,29 @@ def port_exists(starts, goals):
     return False
 
 
-def pin_bits(setting, i):
+def pin_bits(which, setting, i):
     """(output, configuration, kind, port bit) of pin i in a setting."""
-    port, j = i // 8, i % 8
-    return (setting[port] >> j & 1, setting[3 + port] >> j & 1, setting[7 + port] >> j & 1, setting[6] >> port & 1)
+    ports, port, j = PARTS[which].ports, i // 8, i % 8
+    output, configuration, kind = (setting[place + port] >> j & 1 for place in (0, ports, 2 * ports + 1))
+    return output, configuration, kind, setting[2 * ports] >> port & 1
 
 
-def exists(start, goal):
+def exists(which, start, goal):
     """Whether some list of writes, of any length, goes quietly from start to goal."""
-    for port in range(3):
-        pins = range(8 * port, 8 * port + 8)
-        if not port_exists([pin_bits(start, i) for i in pins], [pin_bits(goal, i) for i in pins]):
+    part = PARTS[which]
+    for port in range(part.ports):
+        pins = range(8 * port, min(8 * port + 8, part.pins))
+        if not port_exists([pin_bits(which, start, i) for i in pins], [pin_bits(which, goal, i) for i in pins]):
             return False
     return True
 
 
-def random_rest(rng):
+def random_rest(which, rng):
     """A random image, its bus Idle so that the writes can be sent; well formed once it is at a setting."""
-    registers = [rng.randrange(256) if group and group.stored else 0 for group in Device.map]
-    registers[PORT_KIND] &= 7
-    pointer = rng.choice([n for n in range(128) if Device.map[n]])
-    marks = (rng.randrange(1 << PINS) for _ in range(4))
+    part = PARTS[which]
+    registers = [rng.randrange(256) & part.stored_bits(number) for number in range(128)]
+    pointer = rng.choice([n for n in range(128) if part.map[n]])
+    marks = (rng.randrange(part.limit) for _ in range(4))
     return Image(tuple(registers), *marks, pointer, 0, rng.randrange(4), 0, QUIET)
 
 
@@ -116,25 +114,26 @@ def send(device, register, value):
     return all(device.step(BYTE, byte) == 'ack' for byte in (2 * device.address(), register, value))
 
 
-def judge_run(start, goal, writes, rest):
+def judge_run(which, start, goal, writes, rest):
     """What goes wrong when the writes are sent to one device, None if nothing."""
-    device = Device(settings_image(start, rest))
-    first, last = settings_drives(start), settings_drives(goal)
-    always_inputs = [i for i in range(PINS) if pin_bits(start, i)[1] and pin_bits(goal, i)[1]]
+    part = PARTS[which]
+    device = Device(which, settings_image(which, start, rest))
+    first, last = settings_drives(which, start), settings_drives(which, goal)
+    always_inputs = [i for i in range(part.pins) if pin_bits(which, start, i)[1] and pin_bits(which, goal, i)[1]]
     status = {i: device.status[i] for i in always_inputs}
-    changes = [0] * PINS
+    changes = [0] * part.pins
     before = first
     for count, (register, value) in enumerate(writes, 1):
         where = 'write %d (%02x%02x)' % (count, register, value)
-        if register not in TEN:
-            return '%s: not one of the ten registers' % where
+        if register not in part.settings:
+            return '%s: not one of the planner\'s registers' % where
         stored = device.registers[register]
         if not send(device, register, value):
             return '%s: not acknowledged' % where
         if device.registers[register] == stored:
             return '%s: changes nothing' % where
         now = device.drives()
-        for i in range(PINS):
+        for i in range(part.pins):
             changes[i] += now[i] != before[i]
             if now[i] not in (first[i], last[i]):
                 return '%s: pin %d is %s, neither its start nor its goal' % (where, i, now[i])
@@ -146,34 +145,58 @@ def judge_run(start, goal, writes, rest):
             if device.status[i] != status[i]:
                 return '%s: the status bit of pin %d moves' % (where, i)
         before = now
-    if bytes(device.registers[number] for number in TEN) != goal:
+    if bytes(device.registers[number] for number in part.settings) != goal:
         return 'the goal is not reached'
     return None
 
 
-def judge(start, goal, answer):
-    """None if the answer line is right for these ends, else a string that says what is wrong."""
-    refused = ANSWER_REFUSED.fullmatch(answer)
-    if not (well_formed(start) and well_formed(goal)):
-        return None if refused and refused.group(1) == '5' else 'malformed ends, not refused with 5'
-    possible = exists(start, goal)
-    if refused:
-        if refused.group(1) != '4':
-            return 'refused with %s' % refused.group(1)
-        return 'refused, but a quiet list exists' if possible else None
-    plan = ANSWER_PLAN.fullmatch(answer)
-    if not plan:
-        return 'unreadable answer'
-    if not possible:
-        return 'a plan where no quiet list exists'
-    writes = [(int(pair[:2], 16), int(pair[2:], 16)) for pair in plan.group(1).split('\t')[1:]]
-    if start == goal and writes:
-        return 'writes where start and goal are equal'
-    if len(writes) > MOST_WRITES:
-        return '%d writes' % len(writes)
-    rng = random.Random(start.hex() + goal.hex())
-    for _ in range(RESTS):
-        wrong = judge_run(start, goal, writes, random_rest(rng))
-        if wrong:
-            return wrong
-    return None
+class Planner:
+    """What the planner of one part owes for a start, a goal and the room for its plan."""
+
+    def __init__(self, which):
+        self.which, self.part = which, PARTS[which]
+
+    def length_wrong(self, setting):
+        """A byte for each of the planner's registers."""
+        return len(setting) != len(self.part.settings)
+
+    def unused_set(self, setting):
+        """A port's kind that is none's, or a pin of the sister's last port that is none."""
+        return any(value & ~self.part.bits[number] for number, value in zip(self.part.settings, setting))
+
+    def well_formed(self, setting):
+        return not self.length_wrong(setting) and not self.unused_set(setting)
+
+    def most_writes(self):
+        return self.part.most_writes
+
+    def room_small(self, room):
+        """Two bytes for each write of the longest plan, however short the plan."""
+        return room < 2 * self.part.most_writes
+
+    def refusal(self, start, goal, room):
+        """5, 6 and 4 in this order; None if a plan is owed."""
+        if not (self.well_formed(start) and self.well_formed(goal)):
+            return 5
+        if self.room_small(room):
+            return 6
+        return None if exists(self.which, start, goal) else 4
+
+    def judge(self, start, goal, answer, room=1 << 16):
+        """None if the answer line is right for these ends and this room, else a string that says what is wrong."""
+        number = self.refusal(start, goal, room)
+        refused = ANSWER_REFUSED.fullmatch(answer)
+        if refused or number:
+            wanted = 'refused\t%d' % number if number else 'a plan'
+            return None if answer == wanted else 'wanted %r' % wanted
+        plan = ANSWER_PLAN.fullmatch(answer)
+        if not plan:
+            return 'unreadable answer'
+        writes = [(int(pair[:2], 16), int(pair[2:], 16)) for pair in plan.group(1).split('\t')[1:]]
+        if start == goal and writes:
+            return 'writes where start and goal are equal'
+        if len(writes) > self.most_writes():
+            return '%d writes' % len(writes)
+        rng = random.Random(start.hex() + goal.hex())
+        wrong = (judge_run(self.which, start, goal, writes, random_rest(self.which, rng)) for _ in range(RESTS))
+        return next(filter(None, wrong), None)

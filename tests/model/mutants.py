@@ -1,7 +1,12 @@
-"""One-rule mutants of the model, and which only images, views or bursts can show; try_mutants.py tries them."""
+"""One-rule mutants of the model, and which only images, views or bursts can show; try_mutants.py tries them.
 
-from device import (ARMED, ASSERTED, BYTE, CALL, CHOSEN, DEAF, EVENT_BYTES, FETCH, FILLING, GROUPS, IDLE, LEVELS,
-                    MOST_EVENTS, OPENED, PINS, PORT_KIND, QUIET, SENDING, SET_LIMIT, Device, Pin, number_map, pin_set)
+A mutant of the device is tried on each part that it is about, the other part being right: on both, if it does not say.
+"""
+
+from device import (ARMED, ASSERTED, BYTE, CALL, CHOSEN, DEAF, EVENT_BYTES, FETCH, FILLING, IDLE, LEVELS, MOST_EVENTS,
+                    OPENED, PARTS, QUIET, SENDING, Device, Part, Pin, pin_set)
+from judge import Planner
+from trace import Session, answer_line
 
 # Name of a mutant that no output can tell from the model, and why.
 SURVIVORS = {}
@@ -10,7 +15,7 @@ SURVIVORS = {}
 # log loads no image, and no line of it has an unknown kind or an argument too large or not asked for; or they differ
 # only in what an image alone shows, such as Idle from Deaf.
 ONLY_BY_IMAGES = frozenset('''
-    status_is_stored input_status_is_stored input_port_is_stored
+    interrupt_status_is_stored input_status_is_stored input_port_is_stored
     OutputShowsHeld HeldShowsWithoutLatch EdgeCountsWithoutField
     HeldComparesOldLevel HeldOnOutputs HeldWithoutLatch HeldOnlyOnChange EdgeOnOutputs
     LatchOffKeepsHeld LatchOffOnlyFromOne LatchOnOrsHeld LatchOnHoldsOutputs LatchOnKeepsOutputsHeld
@@ -19,10 +24,12 @@ ONLY_BY_IMAGES = frozenset('''
     KindSixPasses KindLowByteOnly ByteLimitOneMore FetchLimitOneMore LevelsLimitOneMore ArgumentLowWordOnly
     StartChecksArgument ResetChecksArgument KindBeforeImage ArgumentBeforeImage
     ReservedPointerPasses LargePointerPasses BusStateEightPasses BusStateSevenFails ChoiceFourPasses
-    PortKindEightPasses PortKindSevenFails ReservedEntryPasses ReadOnlyEntryPasses ClearEntryPasses LastEntryUnchecked
+    PortKindOneMorePasses PortKindOfAllFails ReservedEntryPasses ReadOnlyEntryPasses ClearEntryPasses LastEntryUnchecked
     HeldWithoutLatchFails LargeLevelPasses LargeReferencePasses LargeHeldPasses LargeEdgePasses
     LineKeptAsAsserted StatusUnjudged LineUnjudged StatusAndLineUnjudged StatusJudgedWithoutMask LineJudgedByKeptStatus
     StatusJudgedAsSomeOrNone MissingStatusBitPasses ExtraStatusBitPasses StatusPastThePinsPasses LineJudgedByLowestBit
+    LevelsLimitOf32Bits LevelsLimitOf36 LevelLimitOf36 ReferenceLimitOf36 HeldLimitOf24 HeldLimitOf36 EdgeLimitOf24
+    EdgeLimitOf36 PortKindLimitOf24 PortKindLimitNone LastPortUnjudged PointersOf24
 '''.split())
 
 # The mutants of what a host is told when it asks, and of when it is refused: no event asks.
@@ -38,6 +45,8 @@ ONLY_BY_BURSTS = frozenset('''
     BurstAnswersRefused BurstUndoesOnRefusal BurstTellsNoCountOfRefused BurstClearsRoom
     RestOfStartIgnored RestOfStopIgnored RestOfResetIgnored RestOfByteIgnored RestOfFetchIgnored RestOfLevelsIgnored
     RestLowByteOnly RestBeforeKind RestBeforeImage RestIsArgumentsUpperWord
+    UpperHalfIgnored UpperHalfOfByteIgnored UpperHalfOfFetchIgnored UpperHalfOfLevelsIgnored UpperHalfRefused
+    UpperHalfRefusedButOfLevels UpperHalfRefusedBeforeKind HalvesSwapped UpperHalfOf16Bits
     EventWordsHighestFirst EventOfEightBytes ArgumentLowHalfOnly
     Burst513Passes Burst512Fails BurstGivenOver512Fails BurstRoomOneShortPasses BurstRoomForAllGiven
     BurstPartOfEventPasses BurstLessGivenPasses BurstEightAfterThree BurstEightTellsNone BurstOfNoneOnBrokenFails
@@ -52,43 +61,336 @@ def mutant(cls):
     return cls
 
 
-def entry(name, first, **changes):
-    """A mutant with one table entry changed."""
-    group = next(group for group in GROUPS if group.first == first)
-    rest = [other for other in GROUPS if other is not group]
-    mutant(type(name, (Device,), {'map': number_map(rest + [group._replace(**changes)])}))
+def mutant_on(*parts):
+    """A mutant of a rule that only these parts have."""
+    def marked(cls):
+        cls.on = parts
+        return mutant(cls)
+    return marked
 
 
-# The table.
+Device.on = tuple(PARTS)
 
-entry('debounce_is_one_group', 0x74, last=0x76)
-entry('drive_strength_of_three', 0x40, last=0x42)
-entry('edge_of_three', 0x60, last=0x62)
-entry('input_port_of_two', 0x00, last=0x01)
-entry('port_kind_of_two', 0x5C, last=0x5D)
-entry('debounce_count_of_two', 0x76, last=0x77)
-entry('input_port_of_four', 0x00, last=0x03)
-entry('pin_kind_of_four', 0x70, last=0x73)
-entry('output_default_00', 0x04, default=0x00)
-entry('polarity_default_ff', 0x08, default=0xFF)
-entry('configuration_default_00', 0x0C, default=0x00)
-entry('drive_strength_default_00', 0x40, default=0x00)
-entry('latch_default_ff', 0x48, default=0xFF)
-entry('pull_enable_default_ff', 0x4C, default=0xFF)
-entry('pull_select_default_00', 0x50, default=0x00)
-entry('mask_default_00', 0x54, default=0x00)
-entry('port_kind_default_07', 0x5C, default=0x07)
-entry('edge_default_ff', 0x60, default=0xFF)
-entry('pin_kind_default_ff', 0x70, default=0xFF)
-entry('debounce_default_ff', 0x74, default=0xFF)
-entry('debounce_count_default_ff', 0x76, default=0xFF)
-entry('pull_enable_not_stored', 0x4C, stored=False)
-entry('drive_strength_not_stored', 0x40, stored=False)
-entry('debounce_count_not_stored', 0x76, stored=False)
-entry('clear_is_stored', 0x68, stored=True)
-entry('status_is_stored', 0x58, stored=True)
-entry('input_status_is_stored', 0x6C, stored=True)
-entry('input_port_is_stored', 0x00, stored=True)
+
+def of_part(which, name, part):
+    """A mutant whose one part is this one."""
+    mutant_on(which)(type(name, (Device,), {'parts': {**PARTS, which: part}}))
+
+
+def with_groups(which, groups):
+    return Part(PARTS[which].pins, groups, PARTS[which].most_writes)
+
+
+def entry(which, name, first, **changes):
+    """A mutant with one table entry of one part changed."""
+    groups = PARTS[which].groups
+    group = next(group for group in groups if group.first == first)
+    rest = [other for other in groups if other is not group]
+    of_part(which, name, with_groups(which, rest + [group._replace(**changes)]))
+
+
+# The tables: the same of both, by the group's name.
+
+def entries(suffix, group_name, **changes):
+    for which, part in PARTS.items():
+        if group_name in part.named:
+            entry(which, '%s_%s' % (group_name.replace(' ', '_'), suffix), part.named[group_name].first, **changes)
+
+
+entries('default_00', 'output', default=0x00)
+entries('default_ff', 'polarity', default=0xFF)
+entries('default_00', 'configuration', default=0x00)
+entries('default_00', 'drive strength', default=0x00)
+entries('default_ff', 'input latch', default=0xFF)
+entries('default_ff', 'pull enable', default=0xFF)
+entries('default_00', 'pull select', default=0x00)
+entries('default_00', 'interrupt mask', default=0x00)
+entries('default_07', 'output port kind', default=0x07)
+entries('default_ff', 'interrupt edge', default=0xFF)
+entries('default_ff', 'pin output kind', default=0xFF)
+entries('default_ff', 'debounce enable', default=0xFF)
+entries('default_ff', 'debounce count', default=0xFF)
+entries('default_ff', 'debounce', default=0xFF)
+entries('not_stored', 'pull enable', stored=False)
+entries('not_stored', 'drive strength', stored=False)
+entries('not_stored', 'debounce count', stored=False)
+entries('not_stored', 'debounce', stored=False)
+entries('is_stored', 'interrupt clear', stored=True)
+entries('is_stored', 'interrupt status', stored=True)
+entries('is_stored', 'input status', stored=True)
+entries('is_stored', 'input port', stored=True)
+
+entry(24, 'debounce_is_one_group', 0x74, last=0x76)
+entry(24, 'drive_strength_of_three', 0x40, last=0x42)
+entry(24, 'edge_of_three', 0x60, last=0x62)
+entry(24, 'input_port_of_two', 0x00, last=0x01)
+entry(24, 'port_kind_of_two', 0x5C, last=0x5D)
+entry(24, 'debounce_count_of_two', 0x76, last=0x77)
+entry(24, 'input_port_of_four', 0x00, last=0x03)
+entry(24, 'pin_kind_of_four', 0x70, last=0x73)
+
+entry(34, 'drive_strength_of_five', 0x30, last=0x34)
+entry(34, 'drive_strength_of_ten', 0x30, last=0x39)
+entry(34, 'edge_of_five', 0x54, last=0x58)
+entry(34, 'edge_of_ten', 0x54, last=0x5D)
+entry(34, 'input_port_of_three', 0x00, last=0x02)
+entry(34, 'configuration_of_six', 0x0F, last=0x14)
+entry(34, 'debounce_of_four', 0x6D, last=0x70)
+
+
+def split_debounce(last):
+    """The sister's debounce registers in two groups, as the 24-pin part has them."""
+    group = PARTS[34].named['debounce']
+    rest = [other for other in PARTS[34].groups if other is not group]
+    halves = [group._replace(last=last), group._replace(first=last + 1, name='debounce count')]
+    of_part(34, 'debounce_split_after_%02x' % last, with_groups(34, rest + halves))
+
+
+split_debounce(0x6D)
+split_debounce(0x6E)
+
+
+# The sister's last port, which has two pins.
+
+def wider_last_port(name, **bits):
+    """The sister with more bits in the last register of some groups."""
+    groups = [group._replace(bits=bits.get(group.name.replace(' ', '_'), group.bits)) for group in PARTS[34].groups]
+    of_part(34, name, with_groups(34, groups))
+
+
+wider_last_port('unused_output_bits_kept', output=0xFF)
+wider_last_port('unused_polarity_bits_kept', polarity=0xFF)
+wider_last_port('unused_configuration_bits_kept', configuration=0xFF)
+wider_last_port('one_unused_configuration_bit_kept', configuration=0x07)
+wider_last_port('unused_strength_bits_kept', drive_strength=0xFF)
+wider_last_port('strength_of_one_bit_a_pin', drive_strength=0x03)
+wider_last_port('unused_latch_bits_kept', input_latch=0xFF)
+wider_last_port('unused_pull_enable_bits_kept', pull_enable=0xFF)
+wider_last_port('unused_pull_select_bits_kept', pull_select=0xFF)
+wider_last_port('unused_mask_bits_kept', interrupt_mask=0xFF)
+wider_last_port('unused_edge_bits_kept', interrupt_edge=0xFF)
+wider_last_port('edge_of_one_bit_a_pin', interrupt_edge=0x03)
+wider_last_port('unused_pin_kind_bits_kept', pin_output_kind=0xFF)
+wider_last_port('port_kind_of_three_bits', output_port_kind=0x07)
+wider_last_port('port_kind_of_six_bits', output_port_kind=0x3F)
+wider_last_port('debounce_of_two_bits', debounce=0x03)
+
+
+def whole_last_port():
+    """The sister with eight pins in its last port; levels of 2^34 or more are refused as ever."""
+    groups = [group._replace(bits=0x1F if group.name == 'output port kind' else 0xFF) for group in PARTS[34].groups]
+    part = Part(40, groups, PARTS[34].most_writes)
+    part.limit, part.digits = PARTS[34].limit, PARTS[34].digits
+    return part
+
+
+of_part(34, 'six_phantom_pins', whole_last_port())
+
+
+@mutant_on(34)
+class PhantomPinsDriven(Device):
+    """Six pins more are driven low once a write says that they are outputs; nothing is kept of it."""
+
+    phantoms = 0
+
+    def kept(self, number, value):
+        if number == self.part.named['configuration'].last:
+            self.phantoms = ~value & 0xFC
+        return super().kept(number, value)
+
+    def outputs(self):
+        line, low, high = super().outputs()
+        return line, low | self.phantoms << 32, high
+
+
+@mutant_on(34)
+class UnusedBitsReadBack(Device):
+    """What was written last is read, whole, where a register has unused bits."""
+
+    written = None
+
+    def store(self, number, value):
+        super().store(number, value)
+        if self.map[number].stored:
+            self.written = number, value
+
+    def byte_at(self, number):
+        shown = super().byte_at(number)
+        if self.written and self.written[0] == number and self.registers[number] == self.kept(*self.written):
+            return self.written[1]
+        return shown
+
+
+def unused_bits_read(name):
+    """The unused bits of one group's last register read as 1."""
+    def byte_at(self, number):
+        group = self.map[number]
+        unused = 0xFF & ~group.bits if group.name == name and number == group.last else 0
+        return Device.byte_at(self, number) | unused
+    mutant_on(34)(type('Unused%sBitsReadOne' % name.title().replace(' ', ''), (Device,), {'byte_at': byte_at}))
+
+
+for read_name in ('input port', 'input status', 'interrupt status', 'interrupt clear', 'configuration'):
+    unused_bits_read(read_name)
+
+
+@mutant_on(34)
+class UnusedDefaultsSet(Device):
+    """The defaults as the tables of the other ports have them, unused bits and all."""
+
+    def reset_registers(self):
+        return [group.default if group and group.stored else 0 for group in self.map]
+
+
+@mutant_on(34)
+class UnusedDefaultsShown(Device):
+    """The register file is right, but a fetch of a default shows it with the bits of the other ports."""
+
+    def byte_at(self, number):
+        group = self.map[number]
+        shown = super().byte_at(number)
+        return group.default if group.stored and shown == group.default & self.part.bits[number] else shown
+
+
+@mutant_on(34)
+class UnusedClearBitsSettle(Device):
+    def write(self, number, value):
+        if self.map[number].name == 'interrupt clear' and number == self.map[number].last and value & 0xFC:
+            value |= 0x03
+        super().write(number, value)
+
+
+@mutant_on(34)
+class LastPortWrittenWhole(Device):
+    """A write with unused bits to the last port is not taken at all."""
+
+    def store(self, number, value):
+        if value & ~self.part.bits[number] == 0:
+            super().store(number, value)
+
+
+@mutant_on(34)
+class LastPortForgotten(Device):
+    """As many ports as the 24-pin part has are fetched and settled."""
+
+    def settled_by_fetch(self, number, acknowledged):
+        return super().settled_by_fetch(number, acknowledged) if number < 3 else ()
+
+
+# What the 24-pin part has, left in the sister.
+
+@mutant_on(34)
+class LevelsLimitOf24(Device):
+    def argument_too_large(self, kind, arg):
+        return super().argument_too_large(kind, arg) or (kind == LEVELS and arg >= PARTS[24].limit)
+
+
+@mutant_on(34)
+class LevelsLimitOf32Bits(Device):
+    def argument_too_large(self, kind, arg):
+        return super().argument_too_large(kind, arg & 0xFFFFFFFF if kind == LEVELS else arg)
+
+
+@mutant_on(34)
+class LevelsLimitOf36(Device):
+    """As many pins as nine digits tell."""
+
+    def argument_too_large(self, kind, arg):
+        return arg >= 1 << 36 if kind == LEVELS else super().argument_too_large(kind, arg)
+
+
+@mutant_on(34)
+class MakeLimitOf24(Device):
+    @classmethod
+    def make_too_large(cls, which, choice, levels):
+        return choice > 3 or levels >= PARTS[24].limit
+
+
+def image_limit_mutant(name, limit, what):
+    """A mutant that has one limit of the sister's images as `limit`."""
+    def pin_sets_broken(self, image):
+        return Device.pin_sets_broken(self, image._replace(**{name: 0})) or getattr(image, name) >= limit
+    mutant_on(34)(type('%s%s' % (name.title(), what), (Device,), {'pin_sets_broken': pin_sets_broken}))
+
+
+for limited in ('level', 'reference', 'held', 'edge'):
+    image_limit_mutant(limited, PARTS[24].limit, 'LimitOf24')
+    image_limit_mutant(limited, 1 << 36, 'LimitOf36')
+
+
+@mutant_on(34)
+class PortKindLimitOf24(Device):
+    def unused_broken(self, number, value):
+        return value > 7 if number == self.part.port_kind else super().unused_broken(number, value)
+
+
+@mutant_on(34)
+class PortKindLimitNone(Device):
+    def unused_broken(self, number, value):
+        return number != self.part.port_kind and super().unused_broken(number, value)
+
+
+@mutant_on(34)
+class LastPortUnjudged(Device):
+    """Of unused bits only the port kind's are judged, which is all that the 24-pin part has."""
+
+    def unused_broken(self, number, value):
+        return number == self.part.port_kind and super().unused_broken(number, value)
+
+
+@mutant_on(34)
+class PointersOf24(Device):
+    def pointer_broken(self, pointer):
+        return pointer > 0x7F or PARTS[24].map[pointer] is None
+
+
+@mutant_on(34)
+class EntriesOf24(Device):
+    def entry_broken(self, number, value):
+        group = PARTS[24].map[number]
+        return super().entry_broken(number, value) or (value != 0 and (group is None or not group.stored))
+
+
+@mutant_on(34)
+class CommandsOf24(Device):
+    def command(self, value):
+        return value if value <= 0x7F and PARTS[24].map[value] is not None else None
+
+
+@mutant_on(34)
+class StatusOf24Pins(Device):
+    def status_bits(self):
+        return [bit and i < 24 for i, bit in enumerate(super().status_bits())]
+
+    def keep_status(self, operation, i):
+        if i < 24:
+            super().keep_status(operation, i)
+
+
+@mutant_on(34)
+class DrivesOf24Pins(Device):
+    def drives(self):
+        return [drive if i < 24 else 'released' for i, drive in enumerate(super().drives())]
+
+
+@mutant_on(34)
+class DrivesOf32Pins(Device):
+    def drives(self):
+        return [drive if i < 32 else 'released' for i, drive in enumerate(super().drives())]
+
+
+@mutant_on(34)
+class LevelsOf24Pins(Device):
+    def take_level(self, i, new):
+        if i < 24:
+            super().take_level(i, new)
+
+
+@mutant_on(34)
+class LevelsOf32Pins(Device):
+    def take_level(self, i, new):
+        if i < 32:
+            super().take_level(i, new)
 
 
 # Drives and what is seen.
@@ -96,19 +398,20 @@ entry('input_port_is_stored', 0x00, stored=True)
 @mutant
 class PinKindIsOpenDrain(Device):
     def open_drain(self, i):
-        return self.bit(0x70, i)
+        return self.bit(self.part.pin_kind, i)
 
 
 @mutant
 class PortKindAlone(Device):
     def open_drain(self, i):
-        return bool(self.registers[PORT_KIND] >> i // 8 & 1)
+        return bool(self.registers[self.part.port_kind] >> i // 8 & 1)
 
 
 @mutant
 class PortKindBitsReversed(Device):
     def open_drain(self, i):
-        return bool(self.registers[PORT_KIND] >> 2 - i // 8 & 1) != self.bit(0x70, i)
+        return bool(self.registers[self.part.port_kind] >> self.part.ports - 1 - i // 8 & 1) != self.bit(
+            self.part.pin_kind, i)
 
 
 @mutant
@@ -122,7 +425,7 @@ class ConfigurationUpsideDown(Device):
     def drive(self, i):
         if not self.is_input(i):
             return 'released'
-        return 'high' if self.bit(0x04, i) else 'low'
+        return 'high' if self.bit(self.part.output, i) else 'low'
 
 
 @mutant
@@ -147,7 +450,7 @@ class OpenDrainShowsLevel(Device):
 @mutant
 class OutputShowsItsBit(Device):
     def input_bit(self, i):
-        return super().input_bit(i) if self.is_input(i) else self.bit(0x04, i)
+        return super().input_bit(i) if self.is_input(i) else self.bit(self.part.output, i)
 
 
 @mutant
@@ -295,8 +598,8 @@ class LineUpsideDown(Device):
 class LineKeptAsAsserted(Device):
     """INT is told right, but in an image 1 is asserted."""
 
-    def __init__(self, image):
-        super().__init__(image._replace(line=1 - image.line))
+    def __init__(self, which, image):
+        super().__init__(which, image._replace(line=1 - image.line))
 
     def image(self):
         return super().image()._replace(line=1 - self.line)
@@ -360,7 +663,7 @@ class StatusAndLineUnjudged(Device):
 @mutant
 class StatusJudgedWithoutMask(Device):
     def status_broken(self, status):
-        return status != pin_set(self.is_input(i) and self.pending(i) for i in range(PINS))
+        return status != pin_set(self.is_input(i) and self.pending(i) for i in range(self.part.pins))
 
 
 @mutant
@@ -395,7 +698,7 @@ class ExtraStatusBitPasses(Device):
 @mutant
 class StatusPastThePinsPasses(Device):
     def status_broken(self, status):
-        return super().status_broken(status % SET_LIMIT)
+        return super().status_broken(status % self.part.limit)
 
 
 @mutant
@@ -522,7 +825,7 @@ class NoFieldMarksChange(Device):
 @mutant
 class FieldsFromTheTop(Device):
     def field(self, i):
-        return self.registers[0x60 + i // 4] >> 6 - 2 * (i % 4) & 3
+        return self.registers[self.part.edge + i // 4] >> 6 - 2 * (i % 4) & 3
 
 
 @mutant
@@ -605,7 +908,7 @@ class StatusSettles(Device):
 @mutant
 class FetchSettlesAll(Device):
     def settled_by_fetch(self, number, acknowledged):
-        return range(PINS) if self.map[number].name == 'input port' else ()
+        return range(self.part.pins) if self.map[number].name == 'input port' else ()
 
 
 @mutant
@@ -652,7 +955,7 @@ class FetchSettlesPending(Device):
 class ClearBitClearsPort(Device):
     def clear_written(self, i, new):
         if new:
-            for other in range(i - i % 8, i - i % 8 + 8):
+            for other in range(i - i % 8, min(i - i % 8 + 8, self.part.pins)):
                 self.settle(other)
 
 
@@ -911,7 +1214,7 @@ class TurnTakesReference(Turned):
 @mutant
 class TurnTakesOutputBit(Turned):
     def turned(self, i, before, pin):
-        pin.reference = self.bit(0x04, i)
+        pin.reference = self.bit(self.part.output, i)
 
 
 @mutant
@@ -1051,8 +1354,8 @@ class ResetDeafens(Device):
 @mutant
 class ResetKeepsStrength(Device):
     def reset_registers(self):
-        defaults = super().reset_registers()
-        return defaults[:0x40] + self.registers[0x40:0x46] + defaults[0x46:]
+        defaults, group = super().reset_registers(), self.part.named['drive strength']
+        return defaults[:group.first] + self.registers[group.first:group.last + 1] + defaults[group.last + 1:]
 
 
 @mutant
@@ -1310,7 +1613,7 @@ class PointerStopsAtLast(Device):
 class GroupOfOneSteps(Device):
     def next_number(self, number):
         group = self.map[number]
-        return 0x60 if group.first == group.last == number == 0x5C else super().next_number(number)
+        return self.part.edge if group.name == 'output port kind' else super().next_number(number)
 
 
 @mutant
@@ -1436,21 +1739,21 @@ class UnheardAcknowledged(Device):
 # The file.
 
 @mutant
-class PortKindKeepsBitThree(Device):
+class PortKindKeepsOneBitMore(Device):
     def kept(self, number, value):
-        return value & 15 if number == PORT_KIND else value
+        return value & 2 * self.part.bits[number] + 1 if number == self.part.port_kind else super().kept(number, value)
 
 
 @mutant
 class PortKindKeepsAll(Device):
     def kept(self, number, value):
-        return value
+        return value if number == self.part.port_kind else super().kept(number, value)
 
 
 @mutant
 class PortKindRefusesHighBits(Device):
     def store(self, number, value):
-        if number != PORT_KIND or value < 8:
+        if number != self.part.port_kind or value <= self.part.bits[number]:
             super().store(number, value)
 
 
@@ -1514,13 +1817,13 @@ class FetchLimitOneLess(Device):
 @mutant
 class LevelsLimitOneMore(Device):
     def argument_too_large(self, kind, arg):
-        return super().argument_too_large(kind, arg) and not (kind == LEVELS and arg == SET_LIMIT)
+        return super().argument_too_large(kind, arg) and not (kind == LEVELS and arg == self.part.limit)
 
 
 @mutant
 class LevelsLimitOneLess(Device):
     def argument_too_large(self, kind, arg):
-        return super().argument_too_large(kind, arg) or (kind == LEVELS and arg == SET_LIMIT - 1)
+        return super().argument_too_large(kind, arg) or (kind == LEVELS and arg == self.part.limit - 1)
 
 
 @mutant
@@ -1590,15 +1893,17 @@ class ChoiceThreeFails(Device):
 
 
 @mutant
-class PortKindEightPasses(Device):
-    def port_kind_broken(self, value):
-        return value > 8
+class PortKindOneMorePasses(Device):
+    def unused_broken(self, number, value):
+        return super().unused_broken(number, value) and not (
+            number == self.part.port_kind and value == self.part.bits[number] + 1)
 
 
 @mutant
-class PortKindSevenFails(Device):
-    def port_kind_broken(self, value):
-        return value > 6
+class PortKindOfAllFails(Device):
+    def unused_broken(self, number, value):
+        return super().unused_broken(number, value) or (
+            number == self.part.port_kind and value == self.part.bits[number])
 
 
 @mutant
@@ -1616,7 +1921,8 @@ class ReadOnlyEntryPasses(Device):
 @mutant
 class ClearEntryPasses(Device):
     def entry_broken(self, number, value):
-        return not 0x68 <= number <= 0x6A and super().entry_broken(number, value)
+        group = self.map[number]
+        return not (group and group.name == 'interrupt clear') and super().entry_broken(number, value)
 
 
 @mutant
@@ -1629,25 +1935,25 @@ class LastEntryUnchecked(Device):
 class HeldWithoutLatchFails(Device):
     def pin_sets_broken(self, image):
         return super().pin_sets_broken(image) or any(
-            image.held >> i & 1 and not image.registers[0x48 + i // 8] >> i % 8 & 1 for i in range(PINS))
+            image.held >> i & 1 and not self.latched(i) for i in range(self.part.pins))
 
 
 @mutant
 class MakeAcceptsAnyChoice(Device):
-    @staticmethod
-    def make_too_large(choice, levels):
-        return levels >= SET_LIMIT
+    @classmethod
+    def make_too_large(cls, which, choice, levels):
+        return levels >= PARTS[which].limit
 
 
 @mutant
 class MakeRefusesChoiceThree(Device):
-    @staticmethod
-    def make_too_large(choice, levels):
-        return choice > 2 or levels >= SET_LIMIT
+    @classmethod
+    def make_too_large(cls, which, choice, levels):
+        return choice > 2 or levels >= PARTS[which].limit
 
 
 def pin_set_mutant(name):
-    """A mutant that lets one pin set of 2^24 or more pass."""
+    """A mutant that lets one pin set with a pin past the last pass."""
     def pin_sets_broken(self, image):
         return Device.pin_sets_broken(self, image._replace(**{name: 0}))
     mutant(type('Large%sPasses' % name.title(), (Device,), {'pin_sets_broken': pin_sets_broken}))
@@ -1767,7 +2073,8 @@ class BurstGoesOnAfterRefusal(Device):
         number, done, answers = super().burst(data, asked, room)
         if number in (1, 2):
             for place in range(done + 1, asked):
-                kind, arg, rest = self.words_of(data, place)
+                kind, low, rest = self.words_of(data, place)
+                arg = self.argument_of(low, rest)
                 if self.event_refusal(kind, arg, rest) is None:
                     self.step(kind, arg)
         return number, done, answers
@@ -1786,7 +2093,7 @@ class BurstUndoesOnRefusal(Device):
         before = self.image()
         number, done, answers = super().burst(data, asked, room)
         if number in (1, 2):
-            self.__init__(before)
+            self.__init__(self.which, before)
         return number, done, answers
 
 
@@ -1808,35 +2115,87 @@ def rest_mutant(name, ignored):
     """A mutant that does not look at one kind's third word."""
     def rest_refused(self, kind, rest):
         return kind != ignored and rest != 0
-    mutant(type('RestOf%sIgnored' % name, (Device,), {'rest_refused': rest_refused}))
+    mutant_on(24)(type('RestOf%sIgnored' % name, (Device,), {'rest_refused': rest_refused}))
 
 
 for kind_number, kind_name in enumerate(('Start', 'Stop', 'Byte', 'Fetch', 'Levels', 'Reset')):
     rest_mutant(kind_name, kind_number)
 
 
-@mutant
+@mutant_on(24)
 class RestLowByteOnly(Device):
     def rest_refused(self, kind, rest):
         return rest & 0xFF != 0
 
 
-@mutant
+@mutant_on(24)
 class RestBeforeKind(Device):
     def event_refusal(self, kind, arg, rest):
         return 2 if rest != 0 and not self.broken else super().event_refusal(kind, arg, rest)
 
 
-@mutant
+@mutant_on(24)
 class RestBeforeImage(Device):
     def event_refusal(self, kind, arg, rest):
         return 2 if rest != 0 and kind < 6 else super().event_refusal(kind, arg, rest)
 
 
-@mutant
+@mutant_on(24)
 class RestIsArgumentsUpperWord(Device):
+    """The sister's rule."""
+
     def event_refusal(self, kind, arg, rest):
         return self.refusal(kind, arg | rest << 32)
+
+
+@mutant_on(34)
+class UpperHalfIgnored(Device):
+    def argument_of(self, low, rest):
+        return low
+
+
+def upper_half_mutant(name, ignored):
+    """A mutant that does not look at one kind's upper half."""
+    def words_of(self, data, place):
+        kind, low, rest = Device.words_of(self, data, place)
+        return kind, low, 0 if kind == ignored else rest
+    mutant_on(34)(type('UpperHalfOf%sIgnored' % name, (Device,), {'words_of': words_of}))
+
+
+for kind_number, kind_name in ((BYTE, 'Byte'), (FETCH, 'Fetch'), (LEVELS, 'Levels')):
+    upper_half_mutant(kind_name, kind_number)
+
+
+@mutant_on(34)
+class UpperHalfRefused(Device):
+    """The 24-pin part's rule."""
+
+    def rest_refused(self, kind, rest):
+        return rest != 0
+
+
+@mutant_on(34)
+class UpperHalfRefusedButOfLevels(Device):
+    def rest_refused(self, kind, rest):
+        return rest != 0 and kind != LEVELS
+
+
+@mutant_on(34)
+class UpperHalfRefusedBeforeKind(Device):
+    def event_refusal(self, kind, arg, rest):
+        return 2 if rest > 3 and kind > 5 and not self.broken else super().event_refusal(kind, arg, rest)
+
+
+@mutant_on(34)
+class HalvesSwapped(Device):
+    def argument_of(self, low, rest):
+        return rest | low << 32
+
+
+@mutant_on(34)
+class UpperHalfOf16Bits(Device):
+    def argument_of(self, low, rest):
+        return low & 0xFFFF | rest << 16 if rest else low
 
 
 @mutant
@@ -1945,3 +2304,294 @@ class BurstLeavesLine(Device):
         told = super().burst(data, asked, room)
         self.line = before
         return told
+
+
+# What the programs read: mutants of a log's session.
+
+READERS = []
+
+
+def reader(cls):
+    READERS.append(cls)
+    return cls
+
+
+@reader
+class SixDigitsMakeASister(Session):
+    def new(self, which, choice, levels, digits):
+        return super().new(which, choice, levels, 9 if (which, digits) == (34, 6) else digits)
+
+
+@reader
+class NineDigitsMakeADevice(Session):
+    def new(self, which, choice, levels, digits):
+        return super().new(which, choice, levels, 6 if (which, digits) == (24, 9) else digits)
+
+
+@reader
+class NineDigitsMakeASister(Session):
+    """Whatever the line calls it."""
+
+    def new(self, which, choice, levels, digits):
+        return super().new({6: 24, 9: 34}.get(digits, which), choice, levels, digits)
+
+
+@reader
+class SixDigitsForTheSistersPins(Session):
+    def event(self, kind, argument, digits):
+        return super().event(kind, argument, 9 if kind == LEVELS and digits == 6 and self.is_sister() else digits)
+
+    def is_sister(self):
+        return self.device is not None and self.device.which == 34
+
+
+@reader
+class NineDigitsForPins(Session):
+    def digits_fit(self, which, digits):
+        return digits in (6, 9)
+
+    def new(self, which, choice, levels, digits):
+        return super().new(which, choice, levels, digits) if digits == PARTS[which].digits else None
+
+
+@reader
+class EightDigitsForTheSister(Session):
+    def digits_fit(self, which, digits):
+        return super().digits_fit(which, digits) or (which, digits) == (34, 8)
+
+
+@reader
+class TooManyPinsMakeASister(Session):
+    def new(self, which, choice, levels, digits):
+        return super().new(which, choice, levels % PARTS[which].limit, digits)
+
+
+@reader
+class TooManyPinsForTheSister(Session):
+    """Those that are none are left out."""
+
+    def event(self, kind, argument, digits):
+        if kind == LEVELS and self.device is not None:
+            argument %= PARTS[self.device.which].limit
+        return super().event(kind, argument, digits)
+
+
+@reader
+class TooManyPinsGetTwo(Session):
+    def levels_fit(self, which, levels):
+        return True
+
+    def event(self, kind, argument, digits):
+        answer = super().event(kind, argument, digits)
+        return '%s\t%d' % answer if isinstance(answer, tuple) else answer
+
+
+@reader
+class LaterDeviceKeepsNineDigits(Session):
+    """A device line after a device34 line is the 24-pin part, but answers go on in nine digits."""
+
+    digits = 6
+
+    def line(self, answer):
+        self.digits = max(self.digits, self.device.part.digits)
+        return answer_line(answer, self.device, self.digits)
+
+
+@reader
+class LaterDeviceReadsNineDigits(Session):
+    """Answers have six digits again, but its pins have nine."""
+
+    widest = 24
+
+    def event(self, kind, argument, digits):
+        if self.device is not None:
+            self.widest = max(self.widest, self.device.which)
+        if kind == LEVELS and self.widest == 34:
+            digits = {9: PARTS[self.device.which].digits}.get(digits, 0)
+        return super().event(kind, argument, digits)
+
+
+@reader
+class LaterDeviceStaysASister(Session):
+    def new(self, which, choice, levels, digits):
+        if which == 24 and digits == 6 and self.device is not None and self.device.which == 34:
+            which, digits = 34, 9
+        return super().new(which, choice, levels, digits)
+
+
+@reader
+class LaterDeviceUnreadable(Session):
+    """A log is of one part."""
+
+    def new(self, which, choice, levels, digits):
+        if self.device is not None and self.device.which != which:
+            return None
+        return super().new(which, choice, levels, digits)
+
+
+@reader
+class SisterAnswersInSixDigits(Session):
+    def line(self, answer):
+        return answer_line(answer, self.device, 6)
+
+
+@reader
+class SisterAnswersInTenDigits(Session):
+    def line(self, answer):
+        return answer_line(answer, self.device, 10 if self.device.which == 34 else None)
+
+
+@reader
+class UnreadableDeviceTakesDigits(Session):
+    """A device line that is unreadable for its choice or its levels leaves the device, but not how many digits pins have."""
+
+    heard = None
+
+    def new(self, which, choice, levels, digits):
+        answer = super().new(which, choice, levels, digits)
+        self.heard = which if digits == PARTS[which].digits else self.heard
+        return answer
+
+    def event(self, kind, argument, digits):
+        if kind == LEVELS and self.device is not None:
+            if digits != PARTS[self.heard].digits:
+                return None
+            digits = PARTS[self.device.which].digits
+        return super().event(kind, argument, digits)
+
+
+# What the planner refuses, and how long a plan may be.
+
+PLANNERS = []
+
+
+def planner(cls):
+    PLANNERS.append(cls)
+    return cls
+
+
+def planner_on(*parts):
+    def marked(cls):
+        cls.on = parts
+        return planner(cls)
+    return marked
+
+
+Planner.on = tuple(PARTS)
+
+
+@planner_on(34)
+class SettingsOfTenBytes(Planner):
+    def length_wrong(self, setting):
+        return len(setting) != 10
+
+
+@planner
+class ShorterSettingsPass(Planner):
+    def length_wrong(self, setting):
+        return len(setting) > len(self.part.settings) or len(setting) < len(self.part.settings) - 1
+
+    def refusal(self, start, goal, room):
+        start, goal = (end + b'\0' if len(end) == len(self.part.settings) - 1 else end for end in (start, goal))
+        return super().refusal(start, goal, room)
+
+
+@planner
+class LongerSettingsPass(Planner):
+    def length_wrong(self, setting):
+        return len(setting) < len(self.part.settings)
+
+
+@planner_on(34)
+class UnusedBitsOfStartPass(Planner):
+    def refusal(self, start, goal, room):
+        start = bytes(value & self.part.bits[number] for value, number in zip(start, self.part.settings)) if len(
+            start) == len(self.part.settings) else start
+        return super().refusal(start, goal, room)
+
+
+@planner_on(34)
+class UnusedBitsOfGoalPass(Planner):
+    def refusal(self, start, goal, room):
+        goal = bytes(value & self.part.bits[number] for value, number in zip(goal, self.part.settings)) if len(
+            goal) == len(self.part.settings) else goal
+        return super().refusal(start, goal, room)
+
+
+@planner_on(34)
+class OnlyPortKindIsJudged(Planner):
+    def unused_set(self, setting):
+        return setting[2 * self.part.ports] & ~0x1F != 0
+
+
+@planner_on(34)
+class PortKindOfSettingsUpTo7(Planner):
+    def unused_set(self, setting):
+        return super().unused_set(setting) or setting[2 * self.part.ports] > 7
+
+
+@planner_on(34)
+class PortKindOfSettingsUnjudged(Planner):
+    def unused_set(self, setting):
+        place = 2 * self.part.ports
+        return super().unused_set(setting[:place] + b'\0' + setting[place + 1:])
+
+
+def setting_mutant(name, place):
+    """A mutant that does not judge the unused bits of one of the sister's registers in a setting."""
+    def unused_set(self, setting):
+        return Planner.unused_set(self, setting[:place] + b'\0' + setting[place + 1:])
+    planner_on(34)(type('Unused%sOfSettingsPasses' % name, (Planner,), {'unused_set': unused_set}))
+
+
+for last_name, last_place in (('Output', 4), ('Configuration', 9), ('PinKind', 15)):
+    setting_mutant(last_name, last_place)
+
+
+@planner_on(34)
+class RoomOf24(Planner):
+    def room_small(self, room):
+        return room < 32
+
+
+@planner_on(24)
+class RoomOf34(Planner):
+    def room_small(self, room):
+        return room < 52
+
+
+@planner
+class RoomOneShortPasses(Planner):
+    def room_small(self, room):
+        return super().room_small(room + 1)
+
+
+@planner
+class RoomOneMoreWanted(Planner):
+    def room_small(self, room):
+        return super().room_small(room - 1)
+
+
+@planner
+class RoomBeforeSettings(Planner):
+    def refusal(self, start, goal, room):
+        return 6 if self.room_small(room) else super().refusal(start, goal, room)
+
+
+@planner
+class WayBeforeRoom(Planner):
+    def refusal(self, start, goal, room):
+        number = super().refusal(start, goal, room)
+        return super().refusal(start, goal, 1 << 16) if number == 6 and super().refusal(start, goal, 1 << 16) else number
+
+
+@planner_on(34)
+class PlanLengthOf24(Planner):
+    def most_writes(self):
+        return 16
+
+
+@planner_on(24)
+class PlanLengthOf34(Planner):
+    def most_writes(self):
+        return 26

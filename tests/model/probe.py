@@ -1,4 +1,4 @@
-"""The probe program: one step on one state image for each line of standard input."""
+"""The programs probe and, with the argument 34, probe34: one step on one state image for each line of standard input."""
 
 import re
 import sys
@@ -41,21 +41,27 @@ def image_fields(image):
     return '\t'.join([bytes(image.registers).hex()] + numbers)
 
 
-def answer_to(read, device_class=Device):
-    """The answer line to a line read."""
+def answer_to(which, read, device_class=Device):
+    """The answer line to a line read, of the part with so many pins."""
     if read is None:
         return UNREADABLE
     image, kind, arg = read
-    device = device_class(image)
+    device = device_class(which, image)
     answer = device.step(kind, arg)
     if isinstance(answer, tuple):
         return b'refused\t%d\n' % answer[1]
     return ('%s\t%s\n' % (answer_line(answer, device), image_fields(device.image()))).encode()
 
 
-def run_lines(lines, device_class=Device):
-    return b''.join(answer_to(read_line(line), device_class) for line in split_lines(lines))
+def run_lines(which, lines, device_class=Device):
+    return b''.join(answer_to(which, read_line(line), device_class) for line in split_lines(lines))
+
+
+def main(run):
+    """A program over one part: 24 pins, or as many as its argument says."""
+    which = int(sys.argv[1]) if sys.argv[1:] else 24
+    sys.stdout.buffer.write(run(which, sys.stdin.buffer.read()))
 
 
 if __name__ == '__main__':
-    sys.stdout.buffer.write(run_lines(sys.stdin.buffer.read()))
+    main(run_lines)

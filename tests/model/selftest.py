@@ -11,8 +11,8 @@ import judge
 import probe
 import trace
 import views
-from device import (ARMED, ASSERTED, BYTE, CALL, DEAF, FETCH, FILLING, GROUPS, IDLE, LEVELS, OPENED, PINS, QUIET, RESET,
-                    SENDING, SET_LIMIT, START, STOP, TEN, Device, kept_image, pin_set)
+from device import (ARMED, ASSERTED, BYTE, CALL, DEAF, FETCH, FILLING, IDLE, LEVELS, OPENED, PARTS, QUIET, RESET, SENDING,
+                    START, STOP, Device, kept_image, pin_set)
 
 EXAMPLES = Path(__file__).resolve().parents[2] / 'examples'
 
@@ -26,20 +26,47 @@ EXAMPLE_OUT = (b'answer\tint\tlow\thigh\n'
                b'-\t0\t000000\t000000\n')
 
 
-class Bench:
-    """A device and a master that talks to it."""
+def numbered(which, number, port=0):
+    """The part's register for the 24-pin part's number, so many ports on."""
+    group, part = PARTS[24].map[number], PARTS[which]
+    registers_a_port = {'output port kind': 0, 'interrupt edge': 2}.get(group.name, 1)
+    return part.named[group.name].first + number - group.first + registers_a_port * port
 
-    def __init__(self, levels=0, choice=0):
-        self.device = Device.make(choice, levels)
+
+# What pins 0 and 1 of the 24-pin part do, they do of its sister, and so do the two pins of the sister's last port.
+PLACES = ((24, 0), (34, 0), (34, 4))
+
+
+def everywhere(test):
+    """A test of a bench that is told its part and port, in every place."""
+    def tested():
+        for place in PLACES:
+            test(*place)
+    tested.__doc__ = test.__doc__
+    return tested
+
+
+class Bench:
+    """A device and a master that talks to it, in the 24-pin part's numbers and as if its port were port 0."""
+
+    def __init__(self, which=24, port=0, levels=0, choice=0):
+        self.which, self.port = which, port
+        self.device = Device.make(which, choice, levels << 8 * port)
 
     def address(self, read=0):
         assert self.device.step(START, 0) == '-'
         assert self.device.step(BYTE, 2 * (0x20 + self.device.choice) + read) == 'ack'
 
-    def write(self, number, *values):
+    def point(self, number):
+        """The pointer to a register by the part's own number."""
         self.address()
-        for value in (number,) + values:
-            assert self.device.step(BYTE, value) == 'ack'
+        assert self.device.step(BYTE, number) == 'ack'
+
+    def write(self, number, *values):
+        self.point(numbered(self.which, number, self.port))
+        for value in values:
+            # A port's kind is a bit of its place.
+            assert self.device.step(BYTE, value << self.port & 0xFF if number == 0x5C else value) == 'ack'
 
     def read(self, number, acknowledged=0):
         self.write(number)
@@ -47,13 +74,27 @@ class Bench:
         return self.device.step(FETCH, acknowledged)
 
     def pins(self, levels):
-        assert self.device.step(LEVELS, levels) == '-'
+        assert self.device.step(LEVELS, levels << 8 * self.port) == '-'
 
     def quiet(self):
         return self.device.outputs()[0] == 1
 
+    def outputs(self):
+        line, low, high = self.device.outputs()
+        return line, low >> 8 * self.port, high >> 8 * self.port
+
+    def drive(self, pin):
+        return self.device.drive(8 * self.port + pin)
+
+    def image(self):
+        image = self.device.image()
+        return image._replace(**{name: getattr(image, name) >> 8 * self.port
+                                 for name in ('level', 'reference', 'held', 'edge', 'status')})
+
     def pointer_after(self, number):
-        self.write(number, 0)
+        """By the part's own numbers."""
+        self.point(number)
+        assert self.device.step(BYTE, 0) == 'ack'
         return self.device.pointer
 
 
@@ -88,40 +129,156 @@ def test_trace_reader():
         assert trace.run_log(log) == header + lines, log
 
 
-def test_drives():
-    bench = Bench()
+def test_trace_reader_of_both_parts():
+    """The device that was made last says how many digits levels have, and how many low and high."""
+    six, nine, no = b'-\t1\t000000\t000000\n', b'-\t1\t000000000\t000000000\n', b'refused\t7\n'
+    for log, lines in (
+            (b'pins\t000000000\ndevice34\t0\t000000000\npins\t000000001\npins\t000001\n', no + nine + nine + no),
+            (b'device34\t3\t3ffffffff\nstart\n', nine + nine),
+            (b'device34\t0\t400000000\nstart\n', no + no),
+            (b'device34\t0\tfffffffff\n', no),
+            (b'device34\t4\t000000000\n', no),
+            (b'device34\t0\t000000\ndevice34\t0\t00000000\ndevice34\t0\t0000000000\n', no * 3),
+            (b'device\t0\t000000000\ndevice\t0\t000000\npins\t000000000\npins\t000000\n', no + six + no + six),
+            (b'device34\t0\t000000000\npins\t3ffffffff\npins\t400000000\npins\t3ffffffff\n',
+             nine + nine + no + nine),
+            (b'device34\t0\t000000000\ndevice\t0\t000000\npins\t000000000\npins\t000001\nstop\n',
+             nine + six + no + six + six),
+            (b'device\t0\t000000\ndevice34\t1\t000000000\npins\t000000\nreset', six + nine + no + nine),
+            # A device line that is unreadable leaves the device and its digits.
+            (b'device\t0\t000000\ndevice34\t0\t400000000\npins\t000000000\npins\t000000\n', six + no + no + six),
+            (b'device34\t0\t000000000\ndevice\t4\t000000\npins\t000000\npins\t000000000\n', nine + no + no + nine)):
+        assert trace.run_log(log) == trace.HEADER + lines, log
+
+
+def test_trace_of_the_sister():
+    """Pins 32 and 33, all there are of port 4: unmasked, one rings; the last is driven high, then low, and no other is."""
+    log = ('device34\t1\t000000000\nstart\nbyte\t42\nbyte\t4d\nbyte\t00\npins\t100000000\n'
+           'start\nbyte\t42\nbyte\t13\nbyte\t01\nstart\nbyte\t42\nbyte\t09\nbyte\t00\nstart\nbyte\t43\nfetch\t0\n')
+    told = trace.run_log(log.encode()).split(b'\n')
+    assert told[6] == b'-\t0\t000000000\t000000000'
+    assert told[10] == b'ack\t0\t000000000\t200000000'
+    assert told[14] == b'ack\t0\t200000000\t000000000'
+    # The pointer has gone on from 09 to 05.
+    assert told[17] == b'ff\t0\t200000000\t000000000'
+
+@everywhere
+def test_drives(which, port):
+    bench = Bench(which, port)
     bench.write(0x0C, 0xFE)
-    assert bench.device.drive(0) == 'high'
+    assert bench.drive(0) == 'high'
     bench.write(0x70, 0x01)
-    assert bench.device.drive(0) == 'released'
+    assert bench.drive(0) == 'released'
     bench.write(0x5C, 0x01)
-    assert bench.device.drive(0) == 'high'
+    assert bench.drive(0) == 'high'
     bench.write(0x70, 0x00)
-    assert bench.device.drive(0) == 'released'
+    assert bench.drive(0) == 'released'
     bench.write(0x04, 0xFE)
-    assert bench.device.outputs() == (1, 1, 0)
-    bench.write(0x5C, 0xFF)
-    assert bench.read(0x5C) == 0x07
+    assert bench.outputs() == (1, 1, 0)
+
+
+POINTERS = {
+    24: ((0x02, 0x00), (0x45, 0x40), (0x65, 0x60), (0x75, 0x74), (0x5C, 0x5C), (0x76, 0x76), (0x74, 0x75), (0x00, 0x01),
+         (0x6A, 0x68), (0x0E, 0x0C)),
+    34: ((0x04, 0x00), (0x38, 0x30), (0x5C, 0x54), (0x62, 0x5E), (0x6F, 0x6D), (0x53, 0x53), (0x02, 0x03), (0x6D, 0x6E),
+         (0x6E, 0x6F), (0x13, 0x0F), (0x09, 0x05), (0x6C, 0x68), (0x52, 0x4E), (0x37, 0x38)),
+}
 
 
 def test_pointer():
-    bench = Bench()
-    for number, after in ((0x02, 0x00), (0x45, 0x40), (0x65, 0x60), (0x75, 0x74), (0x5C, 0x5C), (0x76, 0x76),
-                          (0x74, 0x75), (0x00, 0x01), (0x6A, 0x68), (0x0E, 0x0C)):
-        assert bench.pointer_after(number) == after
-    bench.write(0x48)
-    bench.device.step(STOP, 0)
-    bench.address(1)
-    assert bench.device.step(FETCH, 0) == 0x00
-    assert (bench.device.pointer, bench.device.bus) == (0x48, DEAF)
-    assert bench.device.step(FETCH, 1) == 0xFF
-    bench.address(1)
-    bench.device.step(FETCH, 1)
-    assert (bench.device.pointer, bench.device.bus) == (0x49, SENDING)
+    for which, points in POINTERS.items():
+        bench = Bench(which)
+        for number, after in points:
+            assert bench.pointer_after(number) == after, (which, number)
+        latch = PARTS[which].latch
+        bench.point(latch)
+        bench.device.step(STOP, 0)
+        bench.address(1)
+        assert bench.device.step(FETCH, 0) == 0x00
+        assert (bench.device.pointer, bench.device.bus) == (latch, DEAF)
+        assert bench.device.step(FETCH, 1) == 0xFF
+        bench.address(1)
+        bench.device.step(FETCH, 1)
+        assert (bench.device.pointer, bench.device.bus) == (latch + 1, SENDING)
 
 
-def test_latched_pulse():
-    bench = Bench()
+def test_the_map_of_the_sister():
+    """Sixteen groups; the numbers that no group has are 14-2F, 39, 5D and 70-7F."""
+    part = PARTS[34]
+    assert len(part.groups) == 16
+    assert generate.RESERVED[34] == [*range(0x14, 0x30), 0x39, 0x5D, *range(0x70, 0x80)]
+    assert part.settings == (*range(0x05, 0x0A), *range(0x0F, 0x14), 0x53, *range(0x68, 0x6D))
+    assert (part.ports, part.pins, part.digits, part.most_writes) == (5, 34, 9, 26)
+    assert PARTS[24].settings == (0x04, 0x05, 0x06, 0x0C, 0x0D, 0x0E, 0x5C, 0x70, 0x71, 0x72)
+    # What is not eight bits wide.
+    assert {n: part.bits[n] for n in range(128) if part.map[n] and part.bits[n] != 0xFF} == {
+        **dict.fromkeys((0x04, 0x09, 0x0E, 0x13, 0x3E, 0x43, 0x48, 0x4D, 0x52, 0x62, 0x67, 0x6C), 0x03),
+        0x38: 0x0F, 0x5C: 0x0F, 0x53: 0x1F}
+
+
+def test_defaults_of_the_sister():
+    defaults = {**dict.fromkeys((*range(0x05, 0x09), *range(0x0F, 0x13), *range(0x30, 0x38), *range(0x44, 0x48),
+                                 *range(0x49, 0x4D)), 0xFF),
+                **dict.fromkeys((0x09, 0x13, 0x48, 0x4D), 0x03), 0x38: 0x0F}
+    spoiled = Bench(34)
+    for number in generate.KNOWN[34]:
+        spoiled.point(number)
+        spoiled.device.step(BYTE, 0x5A)
+    armed = Device(34, spoiled.device.image())
+    for event in ((START, 0), (BYTE, 0x00), (BYTE, 0x06), (STOP, 0)):
+        armed.step(*event)
+    spoiled.device.step(RESET, 0)
+    for device in (Device.make(34, 0, 0), spoiled.device, armed):
+        assert device.image().registers == tuple(defaults.get(number, 0) for number in range(128))
+        assert device.outputs() == (1, 0, 0)
+
+
+def test_unused_bits():
+    """Ignored on write, 0 as they are read, whatever is at the pins; and no pin comes of them."""
+    for which, part in PARTS.items():
+        bench = Bench(which, levels=part.limit - 1)
+        for number in generate.KNOWN[which]:
+            for value in (0xFF, 0x00, 0xFF & ~part.bits[number], 0xA5):
+                bench.point(number)
+                bench.device.step(BYTE, value)
+                bench.point(number)
+                bench.address(1)
+                told = bench.device.step(FETCH, 0)
+                assert told & ~part.bits[number] == 0, (which, number, value)
+                if part.map[number].stored:
+                    assert told == bench.device.registers[number] == value & part.bits[number]
+            line, low, high = bench.device.outputs()
+            assert low | high < part.limit and bench.device.image().status < part.limit
+    bench = Bench(34, levels=(1 << 34) - 1)
+    for number, told in ((0x13, 0x03), (0x53, 0x1F), (0x38, 0x0F), (0x5C, 0x0F), (0x6F, 0xFF), (0x04, 0x03), (0x67, 0x03)):
+        bench.point(number)
+        bench.device.step(BYTE, 0xFF)
+        bench.point(number)
+        bench.address(1)
+        assert bench.device.step(FETCH, 0) == told, number
+    # All of them outputs, unmasked, latched, with every field: the six that are none stay out.
+    for name, value in (('interrupt mask', 0x00), ('interrupt edge', 0xFF), ('input latch', 0xFF), ('polarity', 0xFF)):
+        group = PARTS[34].named[name]
+        bench.point(group.first)
+        for _ in range(group.first, group.last + 1):
+            bench.device.step(BYTE, value)
+    bench.device.step(LEVELS, 0)
+    assert bench.device.image().status == (1 << 34) - 1
+    bench.write(0x5C, 0x00)
+    bench.point(0x0F)
+    for _ in range(5):
+        bench.device.step(BYTE, 0x00)
+    assert bench.device.outputs() == (1, 0, (1 << 34) - 1)
+    # A clear bit of a pin that is none settles nothing.
+    before = bench.device.image()
+    bench.point(0x62)
+    bench.device.step(BYTE, 0xFC)
+    assert bench.device.image()._replace(pointer=0, bus=0) == before._replace(pointer=0, bus=0)
+
+
+@everywhere
+def test_latched_pulse(which, port):
+    bench = Bench(which, port)
     bench.write(0x48, 0x01)
     bench.write(0x54, 0xFE)
     bench.pins(1)
@@ -133,8 +290,9 @@ def test_latched_pulse():
     assert bench.read(0x00) == 0x00
 
 
-def test_unlatched_pulse():
-    bench = Bench()
+@everywhere
+def test_unlatched_pulse(which, port):
+    bench = Bench(which, port)
     bench.write(0x54, 0xFE)
     bench.pins(1)
     assert not bench.quiet()
@@ -142,8 +300,9 @@ def test_unlatched_pulse():
     assert bench.quiet()
 
 
-def test_rising_field():
-    bench = Bench()
+@everywhere
+def test_rising_field(which, port):
+    bench = Bench(which, port)
     bench.write(0x60, 0x01)
     bench.write(0x54, 0xFE)
     bench.pins(1)
@@ -161,9 +320,10 @@ def test_rising_field():
 
 
 def test_general_call():
-    for events, reset in ((((STOP, 0),), True), (((START, 0), (STOP, 0)), False), (((BYTE, 6), (STOP, 0)), False),
-                          (((LEVELS, 5), (FETCH, 0), (STOP, 0)), True)):
-        bench = Bench()
+    for which, events, reset in ((which, *case) for which in PARTS for case in (
+            (((STOP, 0),), True), (((START, 0), (STOP, 0)), False), (((BYTE, 6), (STOP, 0)), False),
+            (((LEVELS, 5), (FETCH, 0), (STOP, 0)), True))):
+        bench = Bench(which)
         bench.write(0x04, 0x12)
         device = bench.device
         device.step(START, 0)
@@ -172,72 +332,77 @@ def test_general_call():
         for event in events:
             device.step(*event)
         assert device.bus == IDLE
-        assert device.registers[0x04] == (0xFF if reset else 0x12)
+        assert device.registers[PARTS[which].output] == (0xFF if reset else 0x12)
         assert (device.pointer == 0x00) == reset
 
 
 def test_addresses_and_commands():
-    for choice in range(4):
-        device = Device.make(choice, 0)
+    for which, choice in ((which, choice) for which in PARTS for choice in range(4)):
+        device = Device.make(which, choice, 0)
         for value in range(256):
             device.step(START, 0)
             assert device.bus == OPENED
             mine = value in (0x40 + 2 * choice, 0x41 + 2 * choice, 0x00)
             assert device.step(BYTE, value) == ('ack' if mine else 'nak')
-    bench = Bench()
-    known = {n for group in GROUPS for n in range(group.first, group.last + 1)}
-    assert len(known) == 52 and 0x03 not in known and 0x77 not in known
-    for value in range(256):
-        bench.address()
-        assert bench.device.step(BYTE, value) == ('ack' if value in known else 'nak')
-    assert bench.device.pointer == 0x76
+    for which, count, last in ((24, 52, 0x76), (34, 82, 0x6F)):
+        bench = Bench(which)
+        known = {n for group in PARTS[which].groups for n in range(group.first, group.last + 1)}
+        assert len(known) == count and 0x77 not in known and (0x03 in known) == (which == 34)
+        for value in range(256):
+            bench.address()
+            assert bench.device.step(BYTE, value) == ('ack' if value in known else 'nak')
+        assert bench.device.pointer == last
 
 
 def test_reset():
-    bench = Bench(levels=0xF0F0F0, choice=3)
-    bench.write(0x54, 0, 0, 0)
-    bench.write(0x48, 0xFF)
-    bench.pins(0x0F0F0F)
-    assert not bench.quiet()
-    bench.device.step(RESET, 0)
-    image = bench.device.image()
-    assert image == Device.make(3, 0x0F0F0F).image() and image.bus == IDLE and image.pointer == 0
-    assert (image.held, image.edge, image.reference) == (0, 0, 0x0F0F0F)
-    assert (image.status, image.line) == (0, QUIET)
+    for which, before, after in ((24, 0xF0F0F0, 0x0F0F0F), (34, 0x1F0F0F0F0, 0x20F0F0F0F)):
+        bench = Bench(which, levels=before, choice=3)
+        bench.write(0x54, 0, 0, 0)
+        bench.write(0x48, 0xFF)
+        bench.pins(after)
+        assert not bench.quiet()
+        bench.device.step(RESET, 0)
+        image = bench.device.image()
+        assert image == Device.make(which, 3, after).image() and image.bus == IDLE and image.pointer == 0
+        assert (image.held, image.edge, image.reference) == (0, 0, after)
+        assert (image.status, image.line) == (0, QUIET)
 
 
-def test_polarity_is_not_an_event():
-    bench = Bench()
+@everywhere
+def test_polarity_is_not_an_event(which, port):
+    bench = Bench(which, port)
     bench.write(0x54, 0x00)
     bench.write(0x08, 0xFF)
-    assert bench.quiet() and bench.read(0x6C) == 0xFF and bench.read(0x00) == 0xFF and bench.quiet()
+    shown = 0x03 if port == 4 else 0xFF
+    assert bench.quiet() and bench.read(0x6C) == shown and bench.read(0x00) == shown and bench.quiet()
 
 
-def test_configuration():
+@everywhere
+def test_configuration(which, port):
     """Pins 0 and 1 ring, are quiet as outputs, and ring again as inputs: 0 while it differs, 1 is latched."""
-    bench = Bench()
+    bench = Bench(which, port)
     bench.write(0x54, 0xFC)
     bench.write(0x48, 0x02)
     bench.pins(3)
     assert bench.read(0x58) == 0x03
     bench.write(0x0C, 0xFC)
-    assert bench.quiet() and bench.device.image().held == 0
+    assert bench.quiet() and bench.image().held == 0
     bench.pins(0)
     bench.pins(3)
     bench.write(0x0C, 0xFF)
-    image = bench.device.image()
+    image = bench.image()
     assert (image.status, image.reference, image.held, image.edge) == (3, 0, 2, 0)
     bench.pins(0)
     assert bench.read(0x58) == 0x02 and bench.read(0x00) == 0x02 and bench.quiet()
     assert bench.read(0x00) == 0x00
 
 
-def turned(*acts, latch=0, field=0):
+def turned(place, *acts, latch=0, field=0):
     """A bench whose pin 0, at level 0 and unmasked, was an output, whose level went to 1, and is an input again.
 
     While it was an output, the acts happened after that: a write is a pair, levels a number, a fetch of port 0 None.
     """
-    bench = Bench()
+    bench = Bench(*place)
     bench.write(0x54, 0xFE)
     bench.write(0x48, latch)
     bench.write(0x60, field)
@@ -255,11 +420,12 @@ def turned(*acts, latch=0, field=0):
     return bench
 
 
-def test_output_turned_to_input():
-    for bench, latched in ((turned(), False), (turned(latch=1), True), (turned((0x48, 0x01)), True),
-                           (turned((0x48, 0x00), latch=1), False), (turned((0x68, 0xFE)), False),
-                           (turned(0, 1, latch=1), True)):
-        assert not bench.quiet() and bench.device.image().reference == 0
+@everywhere
+def test_output_turned_to_input(*place):
+    for bench, latched in ((turned(place), False), (turned(place, latch=1), True), (turned(place, (0x48, 0x01)), True),
+                           (turned(place, (0x48, 0x00), latch=1), False), (turned(place, (0x68, 0xFE)), False),
+                           (turned(place, 0, 1, latch=1), True)):
+        assert not bench.quiet() and bench.image().reference == 0
         assert bench.read(0x6C) == 0x01 and bench.read(0x58) == 0x01
         bench.pins(0)
         assert bench.quiet() == (not latched)
@@ -268,55 +434,58 @@ def test_output_turned_to_input():
         assert bench.quiet()
     for latch in (0, 1):
         # Back before the turn, fetched or cleared as an output, or with an edge field: nothing rings.
-        for bench in (turned(0, latch=latch), turned(None, latch=latch), turned((0x68, 0x01), latch=latch),
-                      turned(latch=latch, field=1), turned(latch=latch, field=2), turned(latch=latch, field=3)):
+        for acts, field in (((0,), 0), ((None,), 0), (((0x68, 0x01),), 0), ((), 1), ((), 2), ((), 3)):
+            bench = turned(place, *acts, latch=latch, field=field)
             assert bench.quiet() and bench.read(0x58) == 0x00
         # Fetched as an output, its reference is the level of then, until a reset.
-        bench = turned(None, 0, latch=latch)
-        assert not bench.quiet() and bench.device.image().reference == 1
+        bench = turned(place, None, 0, latch=latch)
+        assert not bench.quiet() and bench.image().reference == 1
         bench.device.step(RESET, 0)
-        assert bench.quiet() and bench.device.image().reference == 0
+        assert bench.quiet() and bench.image().reference == 0
         # With a field the difference is held all the same, and rings once the field is 00.
-        bench = turned(latch=latch, field=1)
+        bench = turned(place, latch=latch, field=1)
         bench.write(0x60, 0x00)
         assert not bench.quiet()
         # Masked, turned, cleared, unmasked: the host's way to stay quiet.
-        bench = turned((0x54, 0xFF), latch=latch)
+        bench = turned(place, (0x54, 0xFF), latch=latch)
         assert bench.quiet()
         bench.write(0x68, 0x01)
         bench.write(0x54, 0xFE)
         assert bench.quiet()
-        bench = turned((0x54, 0xFF), latch=latch)
+        bench = turned(place, (0x54, 0xFF), latch=latch)
         bench.write(0x54, 0xFE)
         assert not bench.quiet()
 
 
-def test_input_stays_input():
+@everywhere
+def test_input_stays_input(which, port):
     """Configuration 1 to 1 keeps every mark: pin 0 is held, pin 1 has its edge."""
-    bench = Bench()
+    bench = Bench(which, port)
     bench.write(0x54, 0xFC)
     bench.write(0x48, 0x01)
     bench.write(0x60, 0x04)
     bench.pins(3)
     bench.pins(0)
-    before = bench.device.image()
+    before = bench.image()
     assert (before.status, before.held, before.edge) == (3, 1, 2)
     bench.write(0x0C, 0xFF)
-    after = bench.device.image()
+    after = bench.image()
     assert (after.status, after.held, after.edge, after.reference) == (3, 1, 2, 0)
 
 
 def test_limits():
-    assert Device.make(0, 0xFFFFFF).image().level == 0xFFFFFF
-    assert Device.make(0, 0x1000000) == ('refused', 2)
-    assert Device.make(4, 0) == ('refused', 2)
-    device = Device.make(0, 0)
-    before = device.image()
-    for kind, arg, number in ((6, 0, 1), (1 << 31, 1 << 40, 1), (BYTE, 256, 2), (FETCH, 2, 2), (LEVELS, SET_LIMIT, 2)):
-        assert device.step(kind, arg) == ('refused', number) and device.image() == before
-    for kind, arg in ((BYTE, 255), (FETCH, 1), (LEVELS, SET_LIMIT - 1), (START, 1 << 63), (STOP, 1 << 63),
-                      (RESET, 1 << 63)):
-        assert not isinstance(device.step(kind, arg), tuple)
+    for which, largest in ((24, 0xFFFFFF), (34, 0x3FFFFFFFF)):
+        assert Device.make(which, 0, largest).image().level == largest
+        assert Device.make(which, 0, largest + 1) == ('refused', 2)
+        assert Device.make(which, 4, 0) == ('refused', 2)
+        device = Device.make(which, 0, 0)
+        before = device.image()
+        for kind, arg, number in ((6, 0, 1), (1 << 31, 1 << 40, 1), (BYTE, 256, 2), (FETCH, 2, 2),
+                                  (LEVELS, largest + 1, 2), (LEVELS, 1 << 63, 2), (BYTE, 1 << 32, 2), (FETCH, 1 << 32, 2)):
+            assert device.step(kind, arg) == ('refused', number) and device.image() == before
+        for kind, arg in ((BYTE, 255), (FETCH, 1), (LEVELS, largest), (START, 1 << 63), (STOP, 1 << 63),
+                          (RESET, 1 << 63)):
+            assert not isinstance(device.step(kind, arg), tuple)
 
 
 def with_entry(image, number, value):
@@ -325,35 +494,51 @@ def with_entry(image, number, value):
     return image._replace(registers=tuple(registers))
 
 
-def broken_images(sound):
+# An entry where nothing is stored, or with an unused bit.
+WRONG_ENTRIES = {
+    24: ((0x5C, 8), (0x00, 1), (0x03, 1), (0x58, 1), (0x69, 128), (0x6E, 1), (0x7F, 1)),
+    34: ((0x53, 0x20), (0x53, 0x80), (0x09, 0x04), (0x0E, 0x80), (0x13, 0x07), (0x38, 0x1F), (0x3E, 0x04), (0x43, 0x04),
+         (0x48, 0x83), (0x4D, 0x07), (0x5C, 0x10), (0x6C, 0x04), (0x00, 1), (0x04, 1), (0x14, 1), (0x39, 1), (0x52, 1),
+         (0x5D, 1), (0x5E, 1), (0x62, 1), (0x67, 2), (0x70, 1), (0x7F, 1)),
+}
+# What is at its limit, and the numbers of the other part that this one has not.
+RIGHT_ENTRIES = {24: ((0x5C, 7), (0x76, 0xFF), (0x0E, 0xFF)), 34: ((0x53, 0x1F), (0x6F, 0xFF), (0x38, 0x0F), (0x6C, 0x03))}
+WRONG_POINTERS = {24: (0x03, 0x3A, 0x7F, 0x80), 34: (0x14, 0x39, 0x5D, 0x70, 0x76, 0x7F, 0x80, 0x84)}
+
+
+def broken_images(which, sound):
     """An image broken in every way, and in no other at the same time."""
-    return (sound._replace(pointer=0x03), sound._replace(pointer=0x7F), sound._replace(pointer=0x80),
+    limit = PARTS[which].limit
+    return (*(sound._replace(pointer=pointer) for pointer in WRONG_POINTERS[which]),
             sound._replace(bus=8), sound._replace(choice=4),
-            *(kept_image(sound._replace(**{name: SET_LIMIT})) for name in ('level', 'reference', 'held', 'edge')),
-            *(with_entry(sound, *entry) for entry in ((0x5C, 8), (0x00, 1), (0x03, 1), (0x58, 1), (0x69, 128),
-                                                      (0x6E, 1), (0x7F, 1))),
+            *(kept_image(which, sound._replace(**{name: limit})) for name in ('level', 'reference', 'held', 'edge')),
+            *(kept_image(which, with_entry(sound, *entry)) for entry in WRONG_ENTRIES[which]),
             *(sound._replace(status=sound.status ^ 1 << i) for i in range(64)),
             sound._replace(line=1 - sound.line), *(sound._replace(line=line) for line in (2, 3, 0x80, 0xFF)))
 
 
 def test_broken_images():
-    sound = Device.make(1, 5).image()
-    for image in broken_images(sound):
-        for kind, arg in ((START, 0), (6, 0), (BYTE, 256)):
-            assert Device(image).step(kind, arg) == ('refused', 3), image
-    for image in (sound, sound._replace(bus=7), sound._replace(choice=3), with_entry(sound, 0x5C, 7),
-                  sound._replace(edge=SET_LIMIT - 1), sound._replace(pointer=0x76)):
-        assert Device(image).step(START, 0) == '-'
+    for which, part in PARTS.items():
+        sound = Device.make(which, 1, 5).image()
+        for image in broken_images(which, sound):
+            for kind, arg in ((START, 0), (6, 0), (BYTE, 256)):
+                assert Device(which, image).step(kind, arg) == ('refused', 3), (which, image)
+        for image in (sound, sound._replace(bus=7), sound._replace(choice=3), sound._replace(edge=part.limit - 1),
+                      sound._replace(pointer=max(generate.KNOWN[which])),
+                      *(with_entry(sound, *entry) for entry in RIGHT_ENTRIES[which])):
+            assert Device(which, image).step(START, 0) == '-', (which, image)
 
 
 def test_status_and_line_are_judged():
     """Pins 0 to 2 have left their reference: 0 is unmasked, 1 is masked, 2 an output."""
-    sound = with_entry(with_entry(Device.make(1, 0).image()._replace(level=7), 0x54, 0xFA), 0x0C, 0xFB)
-    for status in range(16):
-        for line in (ASSERTED, QUIET):
-            answer = Device(sound._replace(status=status, line=line)).step(START, 0)
-            assert answer == ('-' if (status, line) == (1, ASSERTED) else ('refused', 3)), (status, line)
-    assert kept_image(sound) == sound._replace(status=1, line=ASSERTED)
+    for which, part in PARTS.items():
+        sound = with_entry(Device.make(which, 1, 0).image()._replace(level=7), part.mask, 0xFA)
+        sound = with_entry(sound, part.configuration, 0xFB)
+        for status in range(16):
+            for line in (ASSERTED, QUIET):
+                answer = Device(which, sound._replace(status=status, line=line)).step(START, 0)
+                assert answer == ('-' if (status, line) == (1, ASSERTED) else ('refused', 3)), (status, line)
+        assert kept_image(which, sound) == sound._replace(status=1, line=ASSERTED)
 
 
 def want_kept(device, where):
@@ -365,178 +550,216 @@ def want_kept(device, where):
 def test_status_and_line_are_kept():
     """At power-on, after every step from any image that is not broken, and all along a log."""
     rng = random.Random(9)
-    for _ in range(3000):
-        read = probe.read_line(generate.image_line(rng)[:-1])
-        if read:
-            device = Device(read[0])
-            if not isinstance(device.step(*read[1:]), tuple):
-                want_kept(device, read)
-    for _ in range(10):
-        device = None
-        for kind, argument in filter(None, trace.read_log(generate.trace_log(rng))):
-            made = kind == trace.NEW and Device.make(*argument)
-            if isinstance(made, Device):
-                device = made
-            elif kind != trace.NEW:
-                device.step(kind, argument)
-            want_kept(device, (kind, argument))
+    for which in PARTS:
+        for _ in range(2000):
+            read = probe.read_line(generate.image_line(rng, which)[:-1])
+            if read:
+                device = Device(which, read[0])
+                if not isinstance(device.step(*read[1:]), tuple):
+                    want_kept(device, read)
+        for _ in range(10):
+            session = trace.Session()
+            for event in trace.read_log(generate.trace_log(rng, which)):
+                session.answer(event)
+                want_kept(session.device, event)
 
 
-def test_what_writes_status_and_line():
+@everywhere
+def test_what_writes_status_and_line(which, port):
     """Each operation that can change them, on one pin that rings or stops to."""
     def after(kept, *acts):
         """Writes are pairs, levels plain numbers."""
-        bench = Bench()
+        bench = Bench(which, port)
         for act in acts:
             if isinstance(act, int):
                 bench.pins(act)
             else:
                 bench.write(*act)
-        image = bench.device.image()
+        image = bench.image()
         assert (image.status, image.line) == kept, acts
         return bench
 
-    rings, quiet = (0x100, ASSERTED), (0, QUIET)
-    latched, unmasked, up, down = (0x49, 0x01), (0x55, 0xFE), 0x100, 0
+    rings, quiet = (0x01, ASSERTED), (0, QUIET)
+    latched, unmasked, up, down = (0x48, 0x01), (0x54, 0xFE), 0x01, 0
     after(rings, unmasked, up)
     after(quiet, unmasked, up, down)
     after(rings, up, unmasked)
-    after(quiet, unmasked, up, (0x55, 0xFF))
-    after(quiet, unmasked, up, (0x0D, 0xFE))
-    after(quiet, unmasked, up, (0x69, 0x01))
-    after(rings, unmasked, up, (0x69, 0xFE))
-    after(quiet, unmasked, up, (0x62, 0x01))
-    after(rings, unmasked, (0x62, 0x01), up, down)
-    after(quiet, unmasked, (0x62, 0x01), up, down, (0x62, 0x00))
+    after(quiet, unmasked, up, (0x54, 0xFF))
+    after(quiet, unmasked, up, (0x0C, 0xFE))
+    after(quiet, unmasked, up, (0x68, 0x01))
+    after(rings, unmasked, up, (0x68, 0xFE))
+    after(quiet, unmasked, up, (0x60, 0x01))
+    after(rings, unmasked, (0x60, 0x01), up, down)
+    after(quiet, unmasked, (0x60, 0x01), up, down, (0x60, 0x00))
     after(rings, unmasked, latched, up, down)
-    after(quiet, unmasked, latched, up, down, (0x49, 0x00))
+    after(quiet, unmasked, latched, up, down, (0x48, 0x00))
     for event in ((RESET, 0), (FETCH, 0)):
         bench = after(rings, unmasked, latched, up, down)
         if event[0] == FETCH:
-            bench.write(0x01)
+            bench.write(0x00)
             bench.address(1)
         bench.device.step(*event)
-        assert (bench.device.image().status, bench.device.image().line) == quiet
+        assert (bench.image().status, bench.image().line) == quiet
     bench = after(rings, unmasked, up)
-    assert (bench.read(0x58), bench.read(0x59), bench.read(0x5A)) == (0, 1, 0) and not bench.quiet()
+    assert bench.read(0x58) == 1 and not bench.quiet()
+    bench.point(PARTS[which].named['interrupt status'].first)
+    bench.address(1)
+    told = [bench.device.step(FETCH, 1) for _ in range(PARTS[which].ports)]
+    assert told == [int(k == port) for k in range(PARTS[which].ports)]
+
+
+NOT_SHOWN = {24: (0x03, 0x77, 0x7F, 0x80, 0xD4, 0x100, 0x154, 0xFFFFFF54),
+             34: (0x14, 0x39, 0x5D, 0x70, 0x76, 0x7F, 0x80, 0xC9, 0x100, 0x149, 0xFFFFFF49)}
 
 
 def test_views():
     """Pin 0 is unmasked and has left its reference, pin 8 is driven high, pin 9 low."""
-    bench = Bench()
-    bench.write(0x54, 0xFE)
-    bench.write(0x05, 0xFD)
-    bench.write(0x0D, 0xFC)
-    bench.pins(1)
-    sound = bench.device.image()
-    for number, told in ((0x00, 0x01), (0x58, 0x01), (0x0D, 0xFC), (0x68, 0x00), (0x76, 0x00), (0x03, ('refused', 2)),
-                         (0x77, ('refused', 2)), (0x7F, ('refused', 2)), (0x80, ('refused', 2)), (0xD4, ('refused', 2)),
-                         (0x100, ('refused', 2)), (0x154, ('refused', 2)), (0xFFFFFF54, ('refused', 2))):
-        device = Device(sound)
-        assert (device.told_byte(number), device.told_int(), device.told_drives()) == (told, 0, (0x200, 0x100)), number
-        assert device.image() == sound
-    for image in broken_images(sound):
-        device = Device(image)
-        for number in (0x00, 0x03, 0x80, 0x100):
-            assert device.told_byte(number) == ('refused', 3), (image, number)
-        assert device.told_int() == device.told_drives() == ('refused', 3), image
+    for which in PARTS:
+        bench = Bench(which)
+        bench.write(0x54, 0xFE)
+        bench.write(0x05, 0xFD)
+        bench.write(0x0D, 0xFC)
+        bench.pins(1)
+        sound = bench.device.image()
+        shown = [(numbered(which, number), told) for number, told in (
+            (0x00, 0x01), (0x58, 0x01), (0x0D, 0xFC), (0x68, 0x00), (0x4C, 0x00))]
+        for number, told in shown + [(number, ('refused', 2)) for number in NOT_SHOWN[which]]:
+            device = Device(which, sound)
+            views_told = (device.told_byte(number), device.told_int(), device.told_drives())
+            assert views_told == (told, 0, (0x200, 0x100)), (which, number)
+            assert device.image() == sound
+        for image in broken_images(which, sound):
+            device = Device(which, image)
+            for number in (0x00, 0x39, 0x80, 0x100):
+                assert device.told_byte(number) == ('refused', 3), (image, number)
+            assert device.told_int() == device.told_drives() == ('refused', 3), image
 
 
 def test_views_reader():
-    sound = Device.make(2, 5).image()
-    for image, number, answer in (
-            (sound, 0x00, b'05\t1\t000000\t000000\n'), (sound, 0x03, b'refused\t2\t1\t000000\t000000\n'),
-            (sound._replace(bus=8), 0x00, b'refused\t3\trefused\t3\trefused\t3\n')):
-        line = ('%s\t%08x' % (probe.image_fields(image), number)).encode()
-        assert views.run_lines(line) == views.run_lines(line + b'\n') == answer
     rng = random.Random(8)
-    for _ in range(200):
-        assert views.run_lines(generate.spoiled_line(rng, line) + b'\n') == b'refused\t7\n'
+    for which, drives in ((24, b'\t000000\t000000\n'), (34, b'\t000000000\t000000000\n')):
+        sound = Device.make(which, 2, 5).image()
+        for image, number, answer in (
+                (sound, 0x00, b'05\t1' + drives), (sound, 0x39, b'refused\t2\t1' + drives),
+                (sound._replace(bus=8), 0x00, b'refused\t3\trefused\t3\trefused\t3\n')):
+            line = ('%s\t%08x' % (probe.image_fields(image), number)).encode()
+            assert views.run_lines(which, line) == views.run_lines(which, line + b'\n') == answer
+        for _ in range(100):
+            assert views.run_lines(which, generate.spoiled_line(rng, line) + b'\n') == b'refused\t7\n'
 
 
 def events_of(*events):
     return b''.join(generate.event_bytes(*(event + (0, 0))[:3]) for event in events)
 
 
+# Events that end a burst, and the number of each. The 24-pin part refuses every third word but 0; of its sister it is the
+# argument's upper half, which START, STOP and reset ignore as they do the rest.
+REFUSED = {
+    24: (((6, 0, 0), 1), ((6, 0, 1), 1), ((BYTE, 256, 0), 2), ((START, 0, 1), 2), ((STOP, 0, 1 << 31), 2),
+         ((RESET, 0, 256), 2), ((LEVELS, 0, 1), 2), ((BYTE, 0, 1), 2), ((FETCH, 0, 1), 2), ((1 << 31, 256, 1), 1)),
+    34: (((6, 0, 0), 1), ((6, 0, 1), 1), ((BYTE, 256, 0), 2), ((BYTE, 0, 1), 2), ((FETCH, 1, 1), 2), ((FETCH, 2, 0), 2),
+         ((LEVELS, 0, 4), 2), ((LEVELS, 0, 1 << 31), 2), ((1 << 31, 256, 1), 1)),
+}
+IGNORED = ((START, 7, 1), (START, 0, 0xFFFFFFFF), (STOP, 3, 1 << 31), (RESET, 0, 4))
+
+
 def test_bursts():
     """The loss of the README: pin 0 unmasked over the bus at choice 2, then its fibre opens."""
-    events = ((START, 7), (BYTE, 0x44), (BYTE, 0x54), (BYTE, 0xFE), (LEVELS, 1), (FETCH, 1))
-    answers = ['-', 'ack', 'ack', 'ack', '-', 0xFF]
-    data = events_of(*events)
-    for asked in range(len(events) + 1):
-        one, single = Device.make(2, 0), Device.make(2, 0)
-        assert one.burst(data, asked, 2 * asked) == (0, asked, answers[:asked])
-        assert [single.step(*event) for event in events[:asked]] == answers[:asked]
-        assert one.image() == single.image()
-    for bad, number in (((6, 0, 0), 1), ((6, 0, 1), 1), ((BYTE, 256, 0), 2), ((START, 0, 1), 2),
-                        ((STOP, 0, 1 << 31), 2), ((RESET, 0, 256), 2), ((LEVELS, 0, 1), 2), ((1 << 31, 256, 1), 1)):
-        for place in range(len(events)):
-            one, single = Device.make(2, 0), Device.make(2, 0)
-            spoiled = data[:12 * place] + events_of(bad) + data[12 * place:]
-            assert one.burst(spoiled, 7, 14) == (number, place, answers[:place])
-            for event in events[:place]:
-                single.step(*event)
+    for which, part in PARTS.items():
+        events = ((START, 7), (BYTE, 0x44), (BYTE, part.mask), (BYTE, 0xFE), (LEVELS, 1), (FETCH, 1))
+        answers = ['-', 'ack', 'ack', 'ack', '-', 0xFF]
+        data = events_of(*events)
+        for asked in range(len(events) + 1):
+            one, single = Device.make(which, 2, 0), Device.make(which, 2, 0)
+            assert one.burst(data, asked, 2 * asked) == (0, asked, answers[:asked])
+            assert [single.step(*event) for event in events[:asked]] == answers[:asked]
             assert one.image() == single.image()
+        for bad, number in REFUSED[which]:
+            for place in range(len(events)):
+                one, single = Device.make(which, 2, 0), Device.make(which, 2, 0)
+                spoiled = data[:12 * place] + events_of(bad) + data[12 * place:]
+                assert one.burst(spoiled, 7, 14) == (number, place, answers[:place]), (which, bad)
+                for event in events[:place]:
+                    single.step(*event)
+                assert one.image() == single.image()
+
+
+def test_upper_half():
+    for event in IGNORED:
+        assert Device.make(34, 2, 0).burst(events_of(event), 1, 2) == (0, 1, ['-']), event
+        assert Device.make(24, 2, 0).burst(events_of(event), 1, 2) == (2, 0, []), event
+    for low, high in ((0, 0), (0, 1), (0, 2), (0xFFFFFFFF, 3), (0x1000000, 0)):
+        device = Device.make(34, 2, 0)
+        assert device.burst(events_of((LEVELS, low, high)), 1, 2) == (0, 1, ['-'])
+        assert device.image().level == low | high << 32
 
 
 def test_bursts_of_eight():
-    sound = Device.make(2, 0).image()
     starts = events_of((START,)) * 514
-    for image, passed in ((sound, 0), (sound._replace(bus=8), 3)):
-        for given, asked, room in ((12, 2, 99), (0, 1, 99), (11, 0, 99), (13, 1, 99), (13, 0, 99), (12, 1, 1),
-                                   (12, 1, 0), (514 * 12, 513, 9999), (514 * 12, 512, 1023), (514 * 12, 1 << 63, 0)):
-            device = Device(image)
-            assert device.burst(starts[:given], asked, room) == (8, None, []), (given, asked, room)
-            assert device.image() == image
-        for given, asked, room in ((12, 1, 2), (12, 1, 3), (514 * 12, 512, 1024), (512 * 12, 512, 1024)):
-            done = 0 if passed else asked
-            assert Device(image).burst(starts[:given], asked, room) == (passed, done, ['-'] * done), (given, asked, room)
-        for given, room in ((0, 0), (12, 0), (514 * 12, 9999)):
-            assert Device(image).burst(starts[:given], 0, room) == (0, 0, [])
+    for which in PARTS:
+        sound = Device.make(which, 2, 0).image()
+        for image, passed in ((sound, 0), (sound._replace(bus=8), 3)):
+            for given, asked, room in ((12, 2, 99), (0, 1, 99), (11, 0, 99), (13, 1, 99), (13, 0, 99), (12, 1, 1),
+                                       (12, 1, 0), (514 * 12, 513, 9999), (514 * 12, 512, 1023), (514 * 12, 1 << 63, 0)):
+                device = Device(which, image)
+                assert device.burst(starts[:given], asked, room) == (8, None, []), (given, asked, room)
+                assert device.image() == image
+            for given, asked, room in ((12, 1, 2), (12, 1, 3), (514 * 12, 512, 1024), (512 * 12, 512, 1024)):
+                done = 0 if passed else asked
+                told = Device(which, image).burst(starts[:given], asked, room)
+                assert told == (passed, done, ['-'] * done), (given, asked, room)
+            for given, room in ((0, 0), (12, 0), (514 * 12, 9999)):
+                assert Device(which, image).burst(starts[:given], 0, room) == (0, 0, [])
 
 
 def test_bursts_reader():
-    sound = Device.make(2, 5)
-    line = ('%s\t%016x\t%04x\t%s' % (probe.image_fields(sound.image()), 1, 5, events_of((START,), (6,)).hex())).encode()
-    sound.step(START, 0)
-    answer = ('0\t0000000000000001\t00003c3c3c\t%s\n' % probe.image_fields(sound.image())).encode()
-    assert bursts.run_lines(line) == bursts.run_lines(line + b'\n') == answer
-    none = line[:-48].replace(b'0000000000000001\t0005', b'0000000000000000\t0000')
-    assert bursts.run_lines(none).startswith(b'0\t0000000000000000\t\t')
-    assert bursts.run_lines(line[:-2]).startswith(b'8\t0000000000000077\t3c3c3c3c3c\t')
-    for spoiled in (b'', line[:-1], line + b'0', line + b'\t', line + b'\r', line[:-49], line[1:], line[:-1] + b'G',
-                    line + b'00' * 6180, line.replace(b'\t0005\t', b'\t0408\t')):
-        assert bursts.run_lines(spoiled + b'\n') == b'refused\t7\n', spoiled
+    for which in PARTS:
+        sound = Device.make(which, 2, 5)
+        line = ('%s\t%016x\t%04x\t%s' % (
+            probe.image_fields(sound.image()), 1, 5, events_of((START,), (6,)).hex())).encode()
+        sound.step(START, 0)
+        answer = ('0\t0000000000000001\t00003c3c3c\t%s\n' % probe.image_fields(sound.image())).encode()
+        assert bursts.run_lines(which, line) == bursts.run_lines(which, line + b'\n') == answer
+        none = line[:-48].replace(b'0000000000000001\t0005', b'0000000000000000\t0000')
+        assert bursts.run_lines(which, none).startswith(b'0\t0000000000000000\t\t')
+        assert bursts.run_lines(which, line[:-2]).startswith(b'8\t0000000000000077\t3c3c3c3c3c\t')
+        for spoiled in (b'', line[:-1], line + b'0', line + b'\t', line + b'\r', line[:-49], line[1:], line[:-1] + b'G',
+                        line + b'00' * 6180, line.replace(b'\t0005\t', b'\t0408\t')):
+            assert bursts.run_lines(which, spoiled + b'\n') == b'refused\t7\n', spoiled
 
 
 def test_probe_reader():
-    line = (probe.image_fields(Device.make(2, 5).image()) + '\t00000000\t0000000000000000').encode()
-    after = Device.make(2, 5)
-    after.step(START, 0)
-    answer = ('-\t1\t000000\t000000\t' + probe.image_fields(after.image())).encode() + b'\n'
-    assert probe.run_lines(line) == probe.run_lines(line + b'\n') == answer
-    assert probe.run_lines(b'') == b''
-    fields = line.split(b'\t')
-    assert len(line) == 379 and len(fields) == 12 and fields[8:10] == [b'0' * 16, b'01']
-    # There is one form: an image without status and line is none.
-    assert probe.run_lines(b'\t'.join(fields[:8] + fields[10:])) == b'refused\t7\n'
     rng = random.Random(1)
-    for _ in range(200):
-        assert probe.run_lines(generate.spoiled_line(rng, line) + b'\n') == b'refused\t7\n'
+    for which, drives in ((24, '000000\t000000'), (34, '000000000\t000000000')):
+        line = (probe.image_fields(Device.make(which, 2, 5).image()) + '\t00000000\t0000000000000000').encode()
+        after = Device.make(which, 2, 5)
+        after.step(START, 0)
+        answer = ('-\t1\t%s\t%s' % (drives, probe.image_fields(after.image()))).encode() + b'\n'
+        assert probe.run_lines(which, line) == probe.run_lines(which, line + b'\n') == answer
+        assert probe.run_lines(which, b'') == b''
+        fields = line.split(b'\t')
+        assert len(line) == 379 and len(fields) == 12 and fields[8:10] == [b'0' * 16, b'01']
+        # There is one form: an image without status and line is none.
+        assert probe.run_lines(which, b'\t'.join(fields[:8] + fields[10:])) == b'refused\t7\n'
+        for _ in range(200):
+            assert probe.run_lines(which, generate.spoiled_line(rng, line) + b'\n') == b'refused\t7\n'
+        # One part's image at power-on is broken for the other.
+        assert probe.run_lines(58 - which, line) == b'refused\t3\n'
 
 
 def test_images_come_back():
     """An image is what its fields say, so that a step that changes nothing gives it back."""
     rng = random.Random(2)
-    for _ in range(200):
-        read = probe.read_line(generate.image_line(rng)[:-1])
-        if read and not Device(read[0]).broken:
-            assert Device(read[0]).image() == read[0]
+    for which in PARTS:
+        for _ in range(200):
+            read = probe.read_line(generate.image_line(rng, which)[:-1])
+            if read and not Device(which, read[0]).broken:
+                assert Device(which, read[0]).image() == read[0]
 
 
 def may_end(before, kind, arg, i):
     """The only causes that may end a status bit, by the device before the event."""
-    pin = before.pins[i]
+    pin, part = before.pins[i], before.part
     if kind == RESET or (kind == STOP and before.bus == ARMED):
         return True
     if kind == LEVELS:
@@ -545,67 +768,128 @@ def may_end(before, kind, arg, i):
         return before.pointer == i // 8
     if kind == BYTE and before.bus == FILLING:
         bit = arg >> i % 8 & 1
-        return (before.pointer == 0x60 + i // 4
-                or (before.pointer - i // 8, bit) in ((0x68, 1), (0x54, 1), (0x48, 0), (0x0C, 0)))
+        return (before.pointer == part.edge + i // 4 or (before.pointer - i // 8, bit) in (
+            (part.clear, 1), (part.mask, 1), (part.latch, 0), (part.configuration, 0)))
     return False
 
 
 def test_causes_that_end_a_status_bit():
     rng = random.Random(7)
-    ended = 0
-    for _ in range(6000):
-        read = probe.read_line(generate.image_line(rng)[:-1])
-        if not read:
-            continue
-        image, kind, arg = read
-        before, after = Device(image), Device(image)
-        if isinstance(after.step(kind, arg), tuple):
-            continue
-        for i in range(PINS):
-            if before.status[i] and not after.status[i]:
-                assert may_end(before, kind, arg, i), (image, kind, arg, i)
-                ended += 1
-    assert ended > 100
+    for which, part in PARTS.items():
+        ended = 0
+        for _ in range(4000):
+            read = probe.read_line(generate.image_line(rng, which)[:-1])
+            if not read:
+                continue
+            image, kind, arg = read
+            before, after = Device(which, image), Device(which, image)
+            if isinstance(after.step(kind, arg), tuple):
+                continue
+            for i in range(part.pins):
+                if before.status[i] and not after.status[i]:
+                    assert may_end(before, kind, arg, i), (image, kind, arg, i)
+                    ended += 1
+        assert ended > 100
 
 
 # The planner.
 
-def setting(**bits):
-    """All pins inputs with output 1, but for the bytes given by register."""
-    values = dict.fromkeys(TEN, 0xFF)
-    values.update({0x5C: 0, 0x70: 0, 0x71: 0, 0x72: 0})
-    values.update({int(name[1:], 16): value for name, value in bits.items()})
-    return bytes(values[number] for number in TEN)
+def setting(which=24, port=0, **bits):
+    """All pins inputs with output 1, but for the bytes given by the 24-pin part's register, so many ports on."""
+    part = PARTS[which]
+    values = {number: 0 if part.map[number].name in ('output port kind', 'pin output kind') else part.bits[number]
+              for number in part.settings}
+    for name, value in bits.items():
+        number = numbered(which, int(name[1:], 16), port)
+        values[number] = (value << port if number == part.port_kind else value) & part.bits[number]
+    return bytes(values[number] for number in part.settings)
 
 
-def test_plan_bench_points():
-    high = setting(r0c=0xFE), setting(r0c=0xFE, r5c=1, r70=1)
-    assert judge.judge(*high, 'refused\t4') is None
-    assert judge.judge(*high, 'plan\t5c01\t7001') is not None
-    low = setting(r04=0xFE, r0c=0xFE), setting(r04=0xFE, r0c=0xFE, r5c=1, r70=1)
-    assert judge.judge(*low, 'plan\t5c01\t7001') is None
-    assert judge.judge(*low, 'refused\t4') is not None
-    swap = setting(r04=0xFD, r0c=0xFE), setting(r04=0xFE, r0c=0xFD)
-    assert judge.judge(*swap, 'plan\t04ff\t0cfd\t04fe') is None
-    for answer in ('plan\t04fe\t0cfd', 'plan\t0cfd\t04fe', 'refused\t4'):
-        assert judge.judge(*swap, answer) is not None
+def plan_line(which, port, *pairs):
+    """The answer that lists these pairs, the 24-pin part's registers so many ports on."""
+    return 'plan' + ''.join('\t%02x%02x' % (numbered(which, number, port), value << port if number == 0x5C else value)
+                            for number, value in pairs)
+
+
+@everywhere
+def test_plan_bench_points(*place):
+    judged = judge.Planner(place[0]).judge
+    high = setting(*place, r0c=0xFE), setting(*place, r0c=0xFE, r5c=1, r70=1)
+    flips = plan_line(*place, (0x5C, 1), (0x70, 1))
+    assert judged(*high, 'refused\t4') is None
+    assert judged(*high, flips) is not None
+    low = setting(*place, r04=0xFE, r0c=0xFE), setting(*place, r04=0xFE, r0c=0xFE, r5c=1, r70=1)
+    assert judged(*low, flips) is None
+    assert judged(*low, 'refused\t4') is not None
+    swap = setting(*place, r04=0xFD, r0c=0xFE), setting(*place, r04=0xFE, r0c=0xFD)
+    assert judged(*swap, plan_line(*place, (0x04, 0xFF), (0x0C, 0xFD), (0x04, 0xFE))) is None
+    for answer in (plan_line(*place, (0x04, 0xFE), (0x0C, 0xFD)), plan_line(*place, (0x0C, 0xFD), (0x04, 0xFE)),
+                   'refused\t4'):
+        assert judged(*swap, answer) is not None
 
 
 def test_judge_finds_faults():
-    start, goal = setting(r0c=0xFC), setting(r04=0xFE, r0c=0xFC)
-    assert judge.judge(start, goal, 'plan\t04fe') is None
-    for answer in ('', 'plan', 'plan ', 'plan\t04fd', 'plan\t04fe\t04fe', 'plan\t04fe\t04ff\t04fe', 'plan\t04fc\t04fe',
-                   'plan\t08ff\t04fe', 'plan\t0cfd\t04fe\t0cfc', 'plan\t0cf8\t04fe\t0cfc', 'plan\t5c08\t04fe',
-                   'plan\t4c01\t04fe', 'plan\t03ff\t04fe', 'plan\t4fe', 'plan\t04FE',
-                   'refused\t4', 'refused\t5', 'refused\t7', 'plan' + '\t7101\t7100' * 8 + '\t04fe'):
-        assert judge.judge(start, goal, answer) is not None, answer
-    assert judge.judge(start, goal, 'plan' + '\t7101\t7100' * 7 + '\t04fe') is None
-    assert judge.judge(start, start, 'plan') is None
-    assert judge.judge(start, start, 'plan\t7101\t7100') is not None
-    for ends in ((start[:9], goal), (start, goal + b'\0'), (start, setting(r5c=8)), (b'', goal)):
-        assert judge.judge(*ends, 'refused\t5') is None
-        assert judge.judge(*ends, 'plan') is not None
-        assert judge.judge(*ends, 'refused\t4') is not None
+    for which in PARTS:
+        judged, plan = judge.Planner(which).judge, lambda *pairs: plan_line(which, 0, *pairs)
+        start, goal = setting(which, r0c=0xFC), setting(which, r04=0xFE, r0c=0xFC)
+        right, pad = plan((0x04, 0xFE)), plan((0x71, 0x01), (0x71, 0x00))[len('plan'):]
+        assert judged(start, goal, right) is None
+        for answer in ('', 'plan', 'plan ', plan((0x04, 0xFD)), plan((0x04, 0xFE), (0x04, 0xFE)),
+                       plan((0x04, 0xFE), (0x04, 0xFF), (0x04, 0xFE)), plan((0x04, 0xFC), (0x04, 0xFE)),
+                       plan((0x08, 0xFF), (0x04, 0xFE)), plan((0x0C, 0xFD), (0x04, 0xFE), (0x0C, 0xFC)),
+                       plan((0x0C, 0xF8), (0x04, 0xFE), (0x0C, 0xFC)), plan((0x4C, 0x01), (0x04, 0xFE)),
+                       'plan\t39ff' + right[len('plan'):], 'plan\t4fe', right.upper(), right[:-2] + 'FE',
+                       'refused\t4', 'refused\t5', 'refused\t6', 'refused\t7'):
+            assert judged(start, goal, answer) is not None, answer
+        # One write more than a plan may have, and as many.
+        pairs = PARTS[which].most_writes // 2
+        assert judged(start, goal, 'plan' + pad * pairs + right[len('plan'):]) is not None
+        assert judged(start, goal, 'plan' + pad * (pairs - 1) + right[len('plan'):]) is None
+        assert judged(start, start, 'plan') is None
+        assert judged(start, start, 'plan' + pad) is not None
+        for ends in ((start[:-1], goal), (start, goal + b'\0'), (b'', goal), (start, setting(58 - which))):
+            assert judged(*ends, 'refused\t5') is None
+            assert judged(*ends, 'plan') is not None
+            assert judged(*ends, 'refused\t4') is not None
+
+
+def test_longest_plan():
+    """Each of the sister's ports from input to low, kinds too: 26 writes that are quiet, and one more is one too many."""
+    start, goal = setting(34), bytes([0x00] * 4 + [0x00] + [0x00] * 5 + [0x1F] + [0xFF] * 4 + [0x03])
+    planner = judge.Planner(34)
+    pairs = [(0x05 + k, 0x00) for k in range(5)] + [(0x53, 0x1F)] + [(0x68 + k, goal[11 + k]) for k in range(5)]
+    pairs += [(0x0F + k, 0x00) for k in range(5)]
+    plan = 'plan' + ''.join('\t%02x%02x' % pair for pair in pairs)
+    assert len(pairs) == 16 and planner.judge(start, goal, plan) is None
+    padded = 'plan' + '\t6801\t6800' * 5 + plan[len('plan'):]
+    assert padded.count('\t') == 26 and planner.judge(start, goal, padded) is None
+    assert planner.judge(start, goal, 'plan\t6801\t6803' + padded[len('plan') + 5:]) is not None
+    for room, number in ((0, 6), (32, 6), (51, 6), (52, None), (53, None)):
+        assert planner.refusal(start, goal, room) == number
+        assert planner.judge(start, goal, 'refused\t6' if number else padded, room) is None
+        assert planner.judge(start, goal, padded if number else 'refused\t6', room) is not None
+
+
+def test_plan_refusals():
+    """5 before 6 before 4: lengths, unused bits, room, then a way."""
+    for which, room in ((24, 32), (34, 52)):
+        planner = judge.Planner(which)
+        whole, stuck = setting(which, r0c=0xFE), setting(which, r0c=0xFE, r5c=1, r70=1)
+        assert planner.refusal(whole, whole, room) is None and planner.refusal(whole, whole, room - 1) == 6
+        assert planner.refusal(whole, stuck, room) == 4 and planner.refusal(whole, stuck, room - 1) == 6
+        part = PARTS[which]
+        for place, number in enumerate(part.settings):
+            for bit in range(8):
+                spoiled = bytearray(whole)
+                spoiled[place] |= 1 << bit
+                wanted = None if part.bits[number] >> bit & 1 else 5
+                assert planner.refusal(bytes(spoiled), bytes(spoiled), room) == wanted, (which, number, bit)
+                if wanted:
+                    for ends in ((whole, bytes(spoiled)), (bytes(spoiled), whole), (bytes(spoiled), stuck)):
+                        assert planner.refusal(*ends, room) == planner.refusal(*ends, 0) == 5
+        for length in (*range(len(whole)), len(whole) + 1, 32):
+            other = (whole * 4)[:length]
+            assert planner.refusal(other, whole, room) == planner.refusal(whole, other, 0) == 5
 
 
 class WholeSearch:
@@ -702,21 +986,22 @@ def test_search_by_pins_is_right():
 def test_exists_in_one_sentence():
     """What the search finds: hopeless exactly if a pin is high at both ends and its port's bit changes."""
     rng = random.Random(4)
-    for _ in range(3000):
-        start, goal = generate.setting_pair(rng)
-        hopeless = any(
-            judge.drive(*a) == judge.drive(*b) == 'high' and a[3] != b[3]
-            for a, b in ((judge.pin_bits(start, i), judge.pin_bits(goal, i)) for i in range(24)))
-        assert judge.exists(start, goal) == (not hopeless)
+    for which, part in PARTS.items():
+        for _ in range(2000):
+            start, goal = generate.setting_pair(rng, which)
+            hopeless = any(
+                judge.drive(*a) == judge.drive(*b) == 'high' and a[3] != b[3]
+                for a, b in ((judge.pin_bits(which, start, i), judge.pin_bits(which, goal, i)) for i in range(part.pins)))
+            assert judge.exists(which, start, goal) == (not hopeless)
 
 
-def faults_of(image):
+def faults_of(which, image):
     """The names of refusal 3's faults that an image has."""
-    device = Device(image)
+    device = Device(which, image)
     return frozenset(name for name, broken in (
         ('pointer', device.pointer_broken(image.pointer)), ('bus', device.bus_broken(image.bus)),
         ('choice', device.choice_broken(image.choice)), ('pin sets', device.pin_sets_broken(image)),
-        ('5C', device.port_kind_broken(image.registers[0x5C])),
+        ('unused', any(device.unused_broken(n, image.registers[n]) for n in range(128))),
         ('entry', any(device.entry_broken(n, image.registers[n]) for n in range(128))),
         ('status', device.status_broken(image.status)), ('line', device.line_broken(image.line))) if broken)
 
@@ -724,25 +1009,46 @@ def faults_of(image):
 def test_broken_images_have_one_fault():
     """Else a fault that is not looked for hides behind another; status and line are also wrong together."""
     rng = random.Random(10)
-    found = set()
-    for _ in range(600):
-        sound = generate.sound_image(rng, [0, 9, 23], 0x54, FILLING)
-        assert not faults_of(sound)
-        found.add(faults_of(generate.broken_image(rng, sound)))
-    assert found == {frozenset(names) for names in (
-        ['pointer'], ['bus'], ['choice'], ['pin sets'], ['5C'], ['entry'], ['status'], ['line'], ['status', 'line'])}
+    for which in PARTS:
+        found, unused = set(), set()
+        for _ in range(600):
+            sound = generate.sound_image(rng, which, PARTS[which].mask, FILLING)
+            assert not faults_of(which, sound)
+            broken = generate.broken_image(rng, which, sound)
+            device = Device(which, broken)
+            found.add(faults_of(which, broken))
+            unused |= {n for n in generate.PARTLY_STORED[which] if device.unused_broken(n, broken.registers[n])}
+        assert found == {frozenset(names) for names in (
+            ['pointer'], ['bus'], ['choice'], ['pin sets'], ['unused'], ['entry'], ['status'], ['line'],
+            ['status', 'line'])}
+        assert len(unused) > len(generate.PARTLY_STORED[which]) // 2
 
 
 def test_generators():
     rng = random.Random(5)
-    for _ in range(30):
-        log = generate.trace_log(rng)
-        assert log.startswith(b'device\t') and log.endswith(b'\n') and 60 <= log.count(b'\n') <= 400
-    assert generate.trace_log(random.Random(6)) == generate.trace_log(random.Random(6))
-    for _ in range(300):
-        assert all(judge.well_formed(end) for end in generate.setting_pair(rng))
-        assert not all(judge.well_formed(end) for end in generate.malformed_pair(rng))
-    assert len(list(generate.one_pin_pairs())) == 24 * 256
+    begins = {24: b'device\t', 34: b'device34\t'}
+    for which in PARTS:
+        for _ in range(30):
+            log = generate.trace_log(rng, which)
+            assert log.startswith(begins[which]) and log.endswith(b'\n') and 60 <= log.count(b'\n') <= 400
+        assert generate.trace_log(random.Random(6), which) == generate.trace_log(random.Random(6), which)
+        planner = judge.Planner(which)
+        for _ in range(300):
+            assert all(planner.well_formed(end) for end in generate.setting_pair(rng, which))
+            assert not all(planner.well_formed(end) for end in generate.malformed_pair(rng, which))
+        assert len(list(generate.one_pin_pairs(which))) == which * 256
+
+
+def test_logs_of_one_part_alone():
+    """A log without others makes devices of its own part alone, for a program that knows no other."""
+    rng = random.Random(11)
+    for which in PARTS:
+        for _ in range(60):
+            events = trace.read_log(generate.trace_log(rng, which, others=False))
+            session = trace.Session()
+            for event in events:
+                session.answer(event)
+                assert session.device.which == which
 
 
 def main():

@@ -3,7 +3,7 @@
 import re
 import sys
 
-from device import BYTE, FETCH, LEVELS, RESET, START, STOP, Device
+from device import BYTE, FETCH, LEVELS, PARTS, RESET, START, STOP, Device
 
 HEADER = b'answer\tint\tlow\thigh\n'
 UNREADABLE = b'refused\t7\n'
@@ -17,10 +17,11 @@ EVENTS = (
     (re.compile(rb'stop'), STOP, None),
     (re.compile(rb'byte\t([0-9a-f]{2})'), BYTE, 16),
     (re.compile(rb'fetch\t([01])'), FETCH, 16),
-    (re.compile(rb'pins\t([0-9a-f]{6})'), LEVELS, 16),
+    (re.compile(rb'pins\t([0-9a-f]+)'), LEVELS, 16),
     (re.compile(rb'reset'), RESET, None),
 )
-DEVICE = re.compile(rb'device\t([0-9a-f])\t([0-9a-f]{6})')
+DEVICE = re.compile(rb'(device|device34)\t([0-9a-f])\t([0-9a-f]+)')
+WHICH = {b'device': 24, b'device34': 34}
 
 
 def split_lines(log):
@@ -32,13 +33,19 @@ def split_lines(log):
 
 
 def read_line(line):
-    """(kind, argument) of an event, (NEW, (choice, levels)) of a device, None if unreadable."""
+    """(kind, argument, digits) of an event, (NEW, (which, choice, levels), digits) of a device, None if unreadable.
+
+    How many digits levels have to have depends on the part, so that they are counted here and judged by the session.
+    """
     for form, kind, base in EVENTS:
         found = form.fullmatch(line)
         if found:
-            return kind, int(found.group(1), base) if base else 0
+            return (kind, int(found.group(1), base), len(found.group(1))) if base else (kind, 0, 0)
     found = DEVICE.fullmatch(line)
-    return (NEW, (int(found.group(1), 16), int(found.group(2), 16))) if found else None
+    if not found:
+        return None
+    name, choice, levels = found.groups()
+    return NEW, (WHICH[name], int(choice, 16), int(levels, 16)), len(levels)
 
 
 def read_log(log):
@@ -50,32 +57,67 @@ def show(answer):
     return answer if isinstance(answer, str) else '%02x' % answer
 
 
-def answer_line(answer, device):
-    return '%s\t%d\t%06x\t%06x' % ((show(answer),) + device.outputs())
+def answer_line(answer, device, digits=None):
+    """The answer, INT's level, the pins driven low and high in the part's digits."""
+    digits = digits or device.part.digits
+    line, low, high = device.outputs()
+    return '%s\t%d\t%0*x\t%0*x' % (show(answer), line, digits, low, digits, high)
 
 
-def answers(events, device_class=Device):
+# The class of each part's devices.
+MODEL = {which: Device for which in PARTS}
+
+
+class Session:
+    """A log's device from line to line, none before its first device line; the part tells how many digits levels have."""
+
+    def __init__(self, classes=None):
+        self.classes, self.device = classes or MODEL, None
+
+    def digits_fit(self, which, digits):
+        """Six digits of the 24-pin part, nine of its sister."""
+        return digits == PARTS[which].digits
+
+    def levels_fit(self, which, levels):
+        """Nine digits can say more than 34 pins."""
+        return levels < PARTS[which].limit
+
+    def levels_read(self, which, levels, digits):
+        return self.digits_fit(which, digits) and self.levels_fit(which, levels)
+
+    def answer(self, event):
+        """The answer line to a line read."""
+        if event is None:
+            return UNREADABLE
+        kind, argument, digits = event
+        answer = self.new(*argument, digits) if kind == NEW else self.event(kind, argument, digits)
+        return UNREADABLE if answer is None else self.line(answer).encode() + b'\n'
+
+    def new(self, which, choice, levels, digits):
+        """A device line; unreadable, as with a choice over 3, it leaves the old device."""
+        made = self.classes[which].make(which, choice, levels) if self.levels_read(which, levels, digits) else None
+        if made is None or isinstance(made, tuple):
+            return None
+        self.device = made
+        return '-'
+
+    def event(self, kind, argument, digits):
+        """An event line; before a device, or with levels that its part has not, it is unreadable."""
+        if self.device is None or kind == LEVELS and not self.levels_read(self.device.which, argument, digits):
+            return None
+        return self.device.step(kind, argument)
+
+    def line(self, answer):
+        return answer_line(answer, self.device)
+
+
+def answers(events, session):
     """The answer line to each event of a log read, one by one."""
-    device = None
-    for event in events:
-        if event and event[0] == NEW:
-            made = device_class.make(*event[1])
-            # A choice over 3 is an unreadable line here, and the old device stays.
-            if isinstance(made, tuple):
-                yield UNREADABLE
-                continue
-            device = made
-            answer = '-'
-        elif event and device:
-            answer = device.step(*event)
-        else:
-            yield UNREADABLE
-            continue
-        yield answer_line(answer, device).encode() + b'\n'
+    return map(session.answer, events)
 
 
-def run_log(log, device_class=Device):
-    return HEADER + b''.join(answers(read_log(log), device_class))
+def run_log(log):
+    return HEADER + b''.join(answers(read_log(log), Session()))
 
 
 if __name__ == '__main__':

@@ -1,7 +1,8 @@
 """Whether the standard corpus tells each one-rule mutant from the model: python3 try_mutants.py [seed] [--all].
 
-A mutant that only images can show is tried on images alone, one that only views or only bursts can show on those alone,
-unless --all has the logs, for views and bursts the images too, run through it.
+A mutant of the device is tried on each part by itself, on cases of that part. One that only images can show is tried on
+images alone, one that only views or only bursts can show on those alone, unless --all has the logs, for views and bursts
+the images too, run through it. Mutants of a log's reader are tried on logs of both parts, those of the planner on plans.
 """
 
 import random
@@ -12,37 +13,40 @@ import bursts
 import generate
 import probe
 import views
-from device import Device
-from mutants import MUTANTS, ONLY_BY_BURSTS, ONLY_BY_IMAGES, ONLY_BY_VIEWS, SURVIVORS
-from trace import answers, read_log
+from device import PARTS, Device
+from judge import Planner
+from mutants import MUTANTS, ONLY_BY_BURSTS, ONLY_BY_IMAGES, ONLY_BY_VIEWS, PLANNERS, READERS, SURVIVORS
+from trace import MODEL, Session, answers, read_log
 
+# Of each part.
 TRACES = 300
 FURTHER_TRACES = 750
 IMAGE_LINES = 6000
 VIEW_LINES = 3000
 BURST_LINES = 3000
+PLANS = 3000
 
 
 class Cases:
     """Inputs read once, each with the model's answers; both are made only as far as some mutant asks for them."""
 
-    def __init__(self, inputs, run):
-        self.inputs, self.run = iter(inputs), run
+    def __init__(self, inputs, run, model):
+        self.inputs, self.run, self.model = iter(inputs), run, model
         self.made = []
 
     def each(self):
         """(input, answers) of those made before, then of the others."""
         yield from list(self.made)
         for given in self.inputs:
-            self.made.append((given, list(self.run(given, Device))))
+            self.made.append((given, list(self.run(given, self.model))))
             yield self.made[-1]
 
-    def tell(self, cls):
+    def tell(self, mutant):
         """Whether some case tells the mutant from the model; a mutant that breaks down is told too."""
         for place, (given, wanted) in enumerate(self.each()):
             try:
-                told = any(got != want for got, want in zip(self.run(given, cls), wanted))
-            except (IndexError, TypeError, AttributeError, ValueError):
+                told = any(got != want for got, want in zip(self.run(given, mutant), wanted))
+            except (IndexError, TypeError, AttributeError, ValueError, KeyError):
                 told = True
             if told:
                 # What tells one mutant tells others: it comes first from now on.
@@ -51,69 +55,120 @@ class Cases:
         return False
 
 
-def trace_cases(rng, count):
-    """Logs, the model's answers line by line."""
-    logs = [generate.trace_log(rng, alone=n % 10 == 9) for n in range(count)]
-    return Cases(map(read_log, logs), answers)
+def trace_cases(rng, which, count):
+    """Logs that begin with a device of the part, the model's answers line by line."""
+    logs = [generate.trace_log(rng, which, alone=n % 10 == 9) for n in range(count)]
+    return Cases(map(read_log, logs), lambda log, cls: answers(log, Session({**MODEL, which: cls})), Device)
 
 
-def image_cases(rng, count):
-    """Image lines, each with its one answer."""
-    lines = (generate.image_line(rng)[:-1] for _ in range(count))
-    return Cases(map(probe.read_line, lines), lambda read, cls: [probe.answer_to(read, cls)])
+def reader_cases(rng, count):
+    """Logs of both parts in turns, by whole sessions."""
+    logs = [generate.trace_log(rng, list(PARTS)[n % len(PARTS)], alone=n % 10 == 9) for n in range(count)]
+    return Cases(map(read_log, logs), lambda log, session: answers(log, session()), Session)
 
 
-def view_cases(rng, count):
-    """View lines, each with its one answer."""
-    lines = (generate.view_line(rng)[:-1] for _ in range(count))
-    return Cases(map(views.read_line, lines), lambda read, cls: [views.answer_to(read, cls)])
+def line_cases(rng, which, count, line, module):
+    """Lines of one of the line programs, each with its one answer."""
+    lines = (line(rng, which)[:-1] for _ in range(count))
+    return Cases(map(module.read_line, lines), lambda read, cls: [module.answer_to(which, read, cls)], Device)
 
 
-def burst_cases(rng, count):
-    """Burst lines, each with its one answer."""
-    lines = (generate.burst_line(rng)[:-1] for _ in range(count))
-    return Cases(map(bursts.read_line, lines), lambda read, cls: [bursts.answer_to(read, cls)])
+def plan_case(rng, which):
+    """(start, goal, room, answer): what is refused, and whether the answer passes."""
+    if rng.random() < 0.1:
+        start, goal, answer = generate.padded_plan(rng, which)
+        return start, goal, 2 * PARTS[which].most_writes, answer
+    pair = generate.malformed_pair if rng.random() < 0.4 else generate.setting_pair
+    return *pair(rng, which), generate.plan_room(rng, which), 'refused\t0'
+
+
+def plan_cases(rng, which, count):
+    def run(case, cls):
+        start, goal, room, answer = case
+        return cls(which).refusal(start, goal, room), cls(which).judge(start, goal, answer, room)
+    return Cases((plan_case(rng, which) for _ in range(count)), run, Planner)
+
+
+class Corpus:
+    """What the mutants of one part are tried on."""
+
+    def __init__(self, seed, which):
+        rng = random.Random('%d pins %d' % (which, seed))
+        self.seed, self.which = seed, which
+        self.logs = trace_cases(rng, which, TRACES)
+        # Of seeds of their own, so that what is asked of one does not move the others.
+        self.images, self.views, self.bursts = (
+            line_cases(random.Random('%s %d pins %d' % (name, which, seed)), which, count, line, module)
+            for name, count, line, module in (('images', IMAGE_LINES, generate.image_line, probe),
+                                              ('views', VIEW_LINES, generate.view_line, views),
+                                              ('bursts', BURST_LINES, generate.burst_line, bursts)))
+        self.plans = plan_cases(random.Random('plans %d pins %d' % (which, seed)), which, PLANS)
+
+    def further_logs(self):
+        return trace_cases(random.Random('further %d pins %d' % (self.which, self.seed)), self.which, FURTHER_TRACES)
+
+
+class Verdicts:
+    """What told each mutant."""
+
+    def __init__(self, everything):
+        self.everything = everything
+        self.by = {place: [] for place in ('traces', 'images', 'views', 'bursts', 'readers', 'plans')}
+        self.alive, self.wrong = [], []
+
+    def put(self, place, name, told):
+        (self.by[place] if told else self.alive).append(name)
+
+    def try_device(self, cls, corpus):
+        name, listed = '%s of %d' % (cls.__name__, corpus.which), cls.__name__
+        for place, only, cases in (('views', ONLY_BY_VIEWS, corpus.views), ('bursts', ONLY_BY_BURSTS, corpus.bursts)):
+            if listed in only:
+                self.put(place, name, cases.tell(cls))
+                if self.everything and (corpus.logs.tell(cls) or corpus.images.tell(cls)):
+                    self.wrong.append('%s: not only %s tell it' % (name, place))
+                return
+        by_image = listed in ONLY_BY_IMAGES
+        traced = (self.everything or not by_image) and corpus.logs.tell(cls)
+        imaged = (by_image or not traced) and corpus.images.tell(cls)
+        self.put('traces' if traced else 'images', name, traced or imaged)
+        if by_image and not imaged:
+            self.wrong.append('%s: no image tells it' % name)
+        # One log in sixty tells the rarest of the others, so that one seed in a hundred asks for more logs than these.
+        if imaged and not by_image and not corpus.further_logs().tell(cls):
+            self.wrong.append('%s: no log tells it' % name)
 
 
 def main(seed, everything):
     began = time.monotonic()
     names = [cls.__name__ for cls in MUTANTS]
-    assert len(set(names)) == len(names)
     assert ONLY_BY_IMAGES | ONLY_BY_VIEWS | ONLY_BY_BURSTS | set(SURVIVORS) <= set(names)
-    rng = random.Random(seed)
-    logs, images, asked = trace_cases(rng, TRACES), image_cases(rng, IMAGE_LINES), view_cases(rng, VIEW_LINES)
-    # Of its own seed, so that what is asked before bursts does not move them.
-    many = burst_cases(random.Random('bursts %d' % seed), BURST_LINES)
-    by_trace, by_image, by_view, by_burst, alive, wrong = [], [], [], [], [], []
-    alone = (('views', ONLY_BY_VIEWS, asked, by_view), ('bursts', ONLY_BY_BURSTS, many, by_burst))
-    for cls, name in zip(MUTANTS, names):
-        by_these = next((place for place in alone if name in place[1]), None)
-        if by_these:
-            what, _, cases, caught = by_these
-            (caught if cases.tell(cls) else alive).append(name)
-            if everything and (logs.tell(cls) or images.tell(cls)):
-                wrong.append('%s: not only %s tell it' % (name, what))
-            continue
-        listed = name in ONLY_BY_IMAGES
-        traced = (everything or not listed) and logs.tell(cls)
-        imaged = (listed or not traced) and images.tell(cls)
-        (by_trace if traced else by_image if imaged else alive).append(name)
-        if listed and not imaged:
-            wrong.append('%s: no image tells it' % name)
-        # One log in sixty tells the rarest of the others, so that one seed in a hundred asks for more logs than these.
-        if imaged and not listed and not trace_cases(random.Random('further %d' % seed), FURTHER_TRACES).tell(cls):
-            wrong.append('%s: no log tells it' % name)
-    print('seed %d: %d mutants, %d caught by traces, only by images %d, by views %d, by bursts %d, %d survive, %.1f s' % (
-        seed, len(MUTANTS), len(by_trace), len(by_image), len(by_view), len(by_burst), len(alive),
-        time.monotonic() - began))
-    print('only by images: %s' % ' '.join(by_image))
-    print('only by views: %s' % ' '.join(by_view))
-    print('only by bursts: %s' % ' '.join(by_burst))
-    for name in alive:
+    trials = [(cls.__name__, which) for cls in MUTANTS + PLANNERS for which in cls.on]
+    assert len(set(trials)) == len(trials)
+    verdicts, count = Verdicts(everything), len(trials) + len(READERS)
+    for which in PARTS:
+        corpus = Corpus(seed, which)
+        for cls in MUTANTS:
+            if which in cls.on:
+                verdicts.try_device(cls, corpus)
+        for cls in PLANNERS:
+            if which in cls.on:
+                verdicts.put('plans', '%s of %d' % (cls.__name__, which), corpus.plans.tell(cls))
+    logs = reader_cases(random.Random('readers %d' % seed), TRACES)
+    for cls in READERS:
+        verdicts.put('readers', cls.__name__, logs.tell(cls))
+    by = verdicts.by
+    print('seed %d: %d mutants, %d caught by traces, %d of readers by traces, only by images %d, by views %d, by bursts %d, '
+          'by plans %d, %d survive, %.1f s' % (
+              seed, count, len(by['traces']), len(by['readers']), len(by['images']), len(by['views']), len(by['bursts']),
+              len(by['plans']), len(verdicts.alive), time.monotonic() - began))
+    for name in verdicts.alive:
         print('survives: %s: %s' % (name, SURVIVORS.get(name, 'not expected')))
-    for line in wrong:
+    for line in verdicts.wrong:
         print(line)
-    return 1 if wrong or any(name not in SURVIVORS for name in alive) else 0
+    if everything:
+        for place in ('images', 'views', 'bursts'):
+            print('only by %s: %s' % (place, ' '.join(by[place])))
+    return 1 if verdicts.wrong or any(name not in SURVIVORS for name in verdicts.alive) else 0
 
 
 if __name__ == '__main__':

@@ -1,9 +1,7 @@
 """What a host asks: a register's byte, INT and the drives of one state image for each line of standard input."""
 
-import sys
-
 from device import Device
-from probe import IMAGE_WIDTHS, line_form, read_fields
+from probe import IMAGE_WIDTHS, line_form, main, read_fields
 from trace import UNREADABLE, split_lines
 
 # An image, register number.
@@ -23,19 +21,19 @@ def show(told, form):
     return form % told
 
 
-def answer_to(read, device_class=Device):
+def answer_to(which, read, device_class=Device):
     """The answer line to a line read; the byte is asked first, so that the rest shows if asking changed something."""
     if read is None:
         return UNREADABLE
     image, number = read
-    device = device_class(image)
+    device = device_class(which, image)
     return '\t'.join((show(device.told_byte(number), '%02x'), show(device.told_int(), '%d'),
-                      show(device.told_drives(), '%06x\t%06x'))).encode() + b'\n'
+                      show(device.told_drives(), '%0{0}x\t%0{0}x'.format(device.part.digits)))).encode() + b'\n'
 
 
-def run_lines(lines, device_class=Device):
-    return b''.join(answer_to(read_line(line), device_class) for line in split_lines(lines))
+def run_lines(which, lines, device_class=Device):
+    return b''.join(answer_to(which, read_line(line), device_class) for line in split_lines(lines))
 
 
 if __name__ == '__main__':
-    sys.stdout.buffer.write(run_lines(sys.stdin.buffer.read()))
+    main(run_lines)
