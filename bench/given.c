@@ -11,10 +11,10 @@ struct pair pairs[PAIRS];
 void make_events(void)
 {
     struct mix mix;
-    mix_begin(&mix, SEED, CHOICE, LEVELS);
+    mix_begin(&mix, &mix24, SEED, CHOICE, LEVELS);
     for (size_t i = 0; i < EVENTS; i++) {
         events[i] = mix_next(&mix);
-        put_event(event_bytes + i * GHIXRAMEL_EVENT_BYTES, events[i].kind, events[i].argument, 0);
+        put_event(event_bytes + i * GHIXRAMEL_EVENT_BYTES, events[i].kind, (uint32_t)events[i].argument, (uint32_t)(events[i].argument >> 32));
     }
 }
 

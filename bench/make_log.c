@@ -10,7 +10,7 @@ static uint8_t *put_device(uint8_t *to, struct mix *mix, uint64_t *random)
 {
     uint32_t choice = random_below(random, 4);
     uint32_t levels = random_below(random, 1 << 24);
-    mix_begin(mix, *random, choice, levels);
+    mix_begin(mix, &mix24, *random, choice, levels);
     to = put_hex(PUT_WORDS(to, "device\t"), choice, 1);
     return put_hex(put_byte(to, '\t'), levels, 6);
 }
@@ -23,11 +23,11 @@ static uint8_t *put_event(uint8_t *to, struct event event)
     case PEER_STOP:
         return PUT_WORDS(to, "stop");
     case PEER_BYTE:
-        return put_hex(PUT_WORDS(to, "byte\t"), event.argument, 2);
+        return put_hex(PUT_WORDS(to, "byte\t"), (uint32_t)event.argument, 2);
     case PEER_FETCH:
-        return put_hex(PUT_WORDS(to, "fetch\t"), event.argument, 1);
+        return put_hex(PUT_WORDS(to, "fetch\t"), (uint32_t)event.argument, 1);
     case PEER_LEVELS:
-        return put_hex(PUT_WORDS(to, "pins\t"), event.argument, 6);
+        return put_hex(PUT_WORDS(to, "pins\t"), (uint32_t)event.argument, 6);
     default:
         return PUT_WORDS(to, "reset");
     }

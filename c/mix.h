@@ -12,19 +12,28 @@
 
 struct event {
     uint32_t kind; /* as peer.h numbers them, and ghixramel.h */
-    uint32_t argument;
+    uint64_t argument;
 };
+
+/* The registers that hosts write and fetch, the likely ones more than once, and how many pins there are to move. */
+struct mix_part {
+    const uint8_t *written, *fetched;
+    uint32_t written_count, fetched_count, pins;
+};
+
+extern const struct mix_part mix24, mix34;
 
 enum { MIX_MOST_EVENTS = 16 };
 
 struct mix {
-    uint64_t random;
-    uint32_t choice, levels;
+    const struct mix_part *part;
+    uint64_t random, levels;
+    uint32_t choice;
     struct event events[MIX_MOST_EVENTS]; /* the transaction under way */
     size_t at, end;
 };
 
-void mix_begin(struct mix *mix, uint64_t seed, uint32_t choice, uint32_t levels);
+void mix_begin(struct mix *mix, const struct mix_part *part, uint64_t seed, uint32_t choice, uint64_t levels);
 
 struct event mix_next(struct mix *mix);
 

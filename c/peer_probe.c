@@ -53,10 +53,9 @@ static int read_probe(const uint8_t *line, size_t length, struct probe *probe)
     return field(at, 16, &probe->argument) != NULL;
 }
 
-static uint8_t *put_pins(uint8_t *to, uint64_t pins)
+static uint8_t *put_set(uint8_t *to, uint64_t pins)
 {
-    to = put_hex(put_byte(to, '\t'), (uint32_t)(pins >> 32), 8);
-    return put_hex(to, (uint32_t)pins, 8);
+    return put_pins(put_byte(to, '\t'), pins, 16);
 }
 
 static uint8_t *put_image(uint8_t *to, const struct peer *device)
@@ -64,12 +63,12 @@ static uint8_t *put_image(uint8_t *to, const struct peer *device)
     to = put_byte(to, '\t');
     for (int i = 0; i < REGISTERS; i++)
         to = put_hex(to, device->registers[i], 2);
-    to = put_pins(put_pins(to, device->level), device->reference);
-    to = put_pins(put_pins(to, device->held), device->edge);
+    to = put_set(put_set(to, device->level), device->reference);
+    to = put_set(put_set(to, device->held), device->edge);
     to = put_hex(put_byte(to, '\t'), device->pointer, 2);
     to = put_hex(put_byte(to, '\t'), device->bus, 2);
     to = put_hex(put_byte(to, '\t'), device->choice, 2);
-    return put_hex(put_byte(put_pins(to, device->status), '\t'), device->line, 2);
+    return put_hex(put_byte(put_set(to, device->status), '\t'), device->line, 2);
 }
 
 static uint8_t *put_step(uint8_t *to, struct probe *probe)

@@ -5,6 +5,11 @@
 #include "peer.h"
 #include "text.h"
 
+/* The digits of levels and drives: of the sister, which only the library knows, its tests have nine. */
+#ifndef PEER_DIGITS
+#define PEER_DIGITS 6
+#endif
+
 enum { UNREADABLE = 7, MOST_ANSWER_BYTES = 32 };
 
 static inline uint8_t *put_refused(uint8_t *to, uint32_t number)
@@ -34,8 +39,8 @@ static inline uint8_t *put_outputs(uint8_t *to, const struct peer *device, const
     peer_drives(device, drives);
     to = put_byte(put_answer(to, answer), '\t');
     to = put_byte(to, peer_int(device) ? '0' : '1');
-    to = put_hex(put_byte(to, '\t'), (uint32_t)drives[0], 6);
-    return put_hex(put_byte(to, '\t'), (uint32_t)drives[1], 6);
+    to = put_pins(put_byte(to, '\t'), drives[0], PEER_DIGITS);
+    return put_pins(put_byte(to, '\t'), drives[1], PEER_DIGITS);
 }
 
 #endif

@@ -1,7 +1,11 @@
 /* The trace program over the peer: a log on standard input, one answer for each line on standard output. */
 #include "peer_text.h"
 
-enum { MOST_LINE_BYTES = 32, DEVICE_LINE = 6 };
+#ifndef PEER_DEVICE
+#define PEER_DEVICE "device"
+#endif
+
+enum { MOST_LINE_BYTES = 32, DEVICE_LINE = 6, DEVICE_BYTES = sizeof(PEER_DEVICE "\t") - 1 };
 
 struct line {
     uint32_t kind; /* an event's kind, or DEVICE_LINE */
@@ -35,11 +39,11 @@ static inline int read_byte_or_fetch(const uint8_t *text, struct line *line)
 static inline int read_device(const uint8_t *text, struct line *line)
 {
     uint64_t choice;
-    if (!BEGINS(text, "device\t") || !read_hex(text + 7, 1, &choice) || text[8] != '\t')
+    if (!BEGINS(text, PEER_DEVICE "\t") || !read_hex(text + DEVICE_BYTES, 1, &choice) || text[DEVICE_BYTES + 1] != '\t')
         return 0;
     line->kind = DEVICE_LINE;
     line->choice = (uint32_t)choice;
-    return read_hex(text + 9, 6, &line->argument);
+    return read_hex(text + DEVICE_BYTES + 2, PEER_DIGITS, &line->argument);
 }
 
 /* 1 if the line has one of the seven forms; its length tells all but two of them apart. */
@@ -54,10 +58,10 @@ static inline int read_line(const uint8_t *text, size_t length, struct line *lin
         return read_words(text, line);
     case sizeof("byte\tHH") - 1:
         return read_byte_or_fetch(text, line);
-    case sizeof("pins\tHHHHHH") - 1:
+    case sizeof("pins\t") - 1 + PEER_DIGITS:
         line->kind = PEER_LEVELS;
-        return BEGINS(text, "pins\t") && read_hex(text + 5, 6, &line->argument);
-    case sizeof("device\tC\tHHHHHH") - 1:
+        return BEGINS(text, "pins\t") && read_hex(text + 5, PEER_DIGITS, &line->argument);
+    case DEVICE_BYTES + sizeof("C\t") - 1 + PEER_DIGITS:
         return read_device(text, line);
     default:
         return 0;

@@ -124,6 +124,14 @@ static inline uint8_t *put_hex(uint8_t *to, uint32_t value, size_t digits)
     return to + digits;
 }
 
+/* Any number of digits up to sixteen. */
+static inline uint8_t *put_pins(uint8_t *to, uint64_t pins, size_t digits)
+{
+    if (digits <= WORD_BYTES)
+        return put_hex(to, (uint32_t)pins, digits);
+    return put_hex(put_hex(to, (uint32_t)(pins >> 32), digits - WORD_BYTES), (uint32_t)pins, WORD_BYTES);
+}
+
 static inline uint8_t *put_byte(uint8_t *to, uint8_t byte)
 {
     *to = byte;

@@ -17,8 +17,8 @@ objects() { # NAMES..
 }
 
 build() {
-    local name watched="checks guarded stack"
-    local host="host $watched images words master refused points refusals broken carried shows plans bursts sister"
+    local name watched="checks guarded stack parts"
+    local host="host $watched images words master refused points refusals broken carried shows plans bursts"
     mkdir -p "$out" || return 1
     for name in $host as_peer plan_lines view_lines burst_lines; do
         compile_c "$out/$name.o" "tests/c/$name.c" || return 1

@@ -21,11 +21,11 @@ static void want_broken(const char *topic, uint64_t detail, const struct ghixram
         want("refusal of a step", GHIXRAMEL_BAD_IMAGE, step_refusal(device, kind, 0));
     want("refusal of a step of unknown kind", GHIXRAMEL_BAD_IMAGE, step_refusal(device, 6, 0));
     want("refusal of a step with a byte too large", GHIXRAMEL_BAD_IMAGE, step_refusal(device, GHIXRAMEL_BYTE, 0x100));
-    want("refusal of a step with levels too large", GHIXRAMEL_BAD_IMAGE, step_refusal(device, GHIXRAMEL_LEVELS, ALL_PINS + 1));
+    want("refusal of a step with levels too large", GHIXRAMEL_BAD_IMAGE, step_refusal(device, GHIXRAMEL_LEVELS, all_pins() + 1));
     want("refusal of drives", GHIXRAMEL_BAD_IMAGE, drives_refusal(device));
     want("refusal of INT", GHIXRAMEL_BAD_IMAGE, int_refusal(device));
     want("refusal of show", GHIXRAMEL_BAD_IMAGE, show_refusal(device, 0x00));
-    want("refusal of show of a reserved number", GHIXRAMEL_BAD_IMAGE, show_refusal(device, 0x03));
+    want("refusal of show of a reserved number", GHIXRAMEL_BAD_IMAGE, show_refusal(device, part->reserved));
     want("refusal of show of a number too large", GHIXRAMEL_BAD_IMAGE, show_refusal(device, 0x100));
     want("refusal of to_image", GHIXRAMEL_BAD_IMAGE, to_image_refusal(device));
     want("refusal of a burst", GHIXRAMEL_BAD_IMAGE, burst_refusal(device, GHIXRAMEL_START, 0, 0));
@@ -103,9 +103,9 @@ static void try_pin_sets(const struct ghixramel_image *whole)
 {
     static const char *const names[4] = {"level", "reference", "held", "edge"};
     for (int set = 0; set < 4; set++) {
-        struct ghixramel_image image = with_pins(whole, set, ALL_PINS);
-        want_image_whole(names[set], ALL_PINS, &image);
-        for (int bit = 24; bit < 64; bit++) {
+        struct ghixramel_image image = with_pins(whole, set, all_pins());
+        want_image_whole(names[set], all_pins(), &image);
+        for (uint32_t bit = part->pins; bit < 64; bit++) {
             image = with_pins(whole, set, (uint64_t)1 << bit);
             want_image_broken(names[set], image.pins[set], &image);
         }
@@ -135,9 +135,9 @@ static void try_entries(const struct ghixramel_image *whole)
         if (stored_bits(number) != 0xFF)
             want_image_broken("all bits set, in entry", number, &image);
     }
-    for (uint32_t value = 8; value <= UINT8_MAX; value++) {
-        struct ghixramel_image image = with_entry(whole, 0x5C, value);
-        want_image_broken("5C", value, &image);
+    for (uint32_t value = bits_of(part->port_kind) + 1u; value <= UINT8_MAX; value++) {
+        struct ghixramel_image image = with_entry(whole, part->port_kind, value);
+        want_image_broken("port kind", value, &image);
     }
 }
 
@@ -206,24 +206,24 @@ static void try_bits(const struct ghixramel *whole)
     for (uint32_t word = 0; word < WORDS; word++) {
         for (int bit = 0; bit < 64; bit++) {
             uint64_t value = (uint64_t)1 << bit;
-            if (word_bits[word] & value)
+            if (bits_of_word(word) & value)
                 continue;
             want_word_broken(whole, word, whole->words[word] | value);
             want_word_broken(whole, word, value);
         }
         want_word_broken(whole, word, UINT64_MAX);
-        if (is_kept(word))
+        if (is_kept(word) || word == PART_WORD)
             continue;
         want_word_whole(whole, word, 0);
         if (word != POINTER_WORD)
-            want_word_whole(whole, word, word_bits[word]);
+            want_word_whole(whole, word, bits_of_word(word));
     }
 }
 
 /* Each status bit the other way, with the line as it was and with the one that would fit; and the line the other way. */
 static void try_kept_words(const struct ghixramel *whole)
 {
-    for (int bit = 0; bit < 24; bit++) {
+    for (uint32_t bit = 0; bit < part->pins; bit++) {
         struct ghixramel device = with_word(whole, STATUS_WORD, whole->words[STATUS_WORD] ^ (uint64_t)1 << bit);
         want_broken("status word", device.words[STATUS_WORD], &device);
         device.words[LINE_WORD] = device.words[STATUS_WORD] == 0;
@@ -238,9 +238,9 @@ static void try_words_they_come_of(const struct ghixramel *whole)
     for (uint32_t word = 0; word < WORDS; word++)
         for (int bit = 0; bit < 64; bit++) {
             struct ghixramel device = *whole;
-            device.words[word] ^= word_bits[word] & (uint64_t)1 << bit;
+            device.words[word] ^= bits_of_word(word) & (uint64_t)1 << bit;
             struct ghixramel right = kept_words(device);
-            if (!is_kept(word) && right.words[STATUS_WORD] != device.words[STATUS_WORD])
+            if (!is_kept(word) && word != PART_WORD && right.words[STATUS_WORD] != device.words[STATUS_WORD])
                 want_broken("status of another moment, changed word", word, &device);
         }
 }
@@ -263,16 +263,44 @@ static void try_pointers(const struct ghixramel *whole)
         (group_of(value) ? want_word_whole : want_word_broken)(whole, POINTER_WORD, value);
 }
 
-/* Well formed for the sister part of 34 pins, and so no state of this one. */
-static void try_sister(void)
+/* A state says its part: any other number there, and whatever is well formed for another part, is no state of this one. */
+static void try_part_numbers(const struct ghixramel *whole)
 {
-    struct ghixramel sister = {0};
-    sister.words[LINE_WORD] = 1;
-    sister.words[PART_WORD] = 1;
-    want_broken("sister part", 0, &sister);
+    for (uint64_t number = 0; number <= UINT8_MAX; number++)
+        (number == part->number ? want_word_whole : want_word_broken)(whole, PART_WORD, number);
+}
+
+/* No pin, line quiet: what every part has, but for its number; and with as many pins as the sister has. */
+static void try_plain_states(void)
+{
+    struct ghixramel plain = {0};
+    plain.words[LINE_WORD] = 1;
+    for (uint64_t number = 0; number <= UINT8_MAX; number++) {
+        plain.words[PART_WORD] = number;
+        (number == part->number ? want_whole : want_broken)("plain state of part", number, &plain);
+    }
     for (int set = 0; set < 4; set++)
-        sister.words[set] = 0x3FFFFFFFF;
-    want_broken("sister part, pins set", 0x3FFFFFFFF, &sister);
+        plain.words[set] = 0x3FFFFFFFF;
+    plain.words[PART_WORD] = 1 - part->number;
+    want_broken("the other part's number, pins set", 0x3FFFFFFFF, &plain);
+}
+
+/* The states that the other parts' own calls make, at power-on and after it. */
+static void try_other_parts(void)
+{
+    const struct part *tried = part;
+    for (uint32_t i = 0; i < part_count; i++) {
+        uint64_t random = SEED;
+        if (&parts[i] == tried)
+            continue;
+        for (int n = 0; n < RANDOM_IMAGES + 1; n++) {
+            part = &parts[i];
+            struct ghixramel_image image = n == 0 ? power_on_image(1, 0x5A) : random_image(&random);
+            struct ghixramel others = device_from(&image);
+            part = tried;
+            want_broken("state that another part's call made", (uint64_t)n, &others);
+        }
+    }
 }
 
 /* Zeros too: their line is asserted, and nothing pends. */
@@ -294,13 +322,15 @@ static void try_words(const struct ghixramel_image *image)
     try_words_they_come_of(&whole);
     try_pairs(&whole);
     try_pointers(&whole);
+    try_part_numbers(&whole);
 }
 
 void check_broken(void)
 {
     struct ghixramel_image image = power_on_image(0, 0);
     uint64_t random = SEED;
-    try_sister();
+    try_plain_states();
+    try_other_parts();
     try_all_words();
     try_image(&image);
     try_words(&image);

@@ -15,9 +15,15 @@ enum { OLD = 0x3C, UNTOUCHED = 0x77 };
 
 #define EACH(item, table) (uint32_t item = 0; item < sizeof(table) / sizeof *(table); item++)
 
+/* The argument of a single step has `rest` as its upper half; of the 24-pin part it is 0 in every event that passes. */
 struct whole_event {
     uint32_t kind, argument, rest;
 };
+
+static uint64_t whole_argument(struct whole_event event)
+{
+    return event.argument | (uint64_t)event.rest << 32;
+}
 
 /* What a burst is lent, and gives. */
 struct burst {
@@ -35,16 +41,25 @@ static void put_in_list(uint32_t place, struct whole_event event)
     put_event(bytes + place * EVENT, event.kind, event.argument, event.rest);
 }
 
-/* Arguments that are not looked at are anything. */
+static int is_ignored(uint32_t kind)
+{
+    return kind == GHIXRAMEL_START || kind == GHIXRAMEL_STOP || kind == GHIXRAMEL_RESET;
+}
+
+/* Arguments that are not looked at are anything; of the 24-pin part their third word is 0. */
 static void make_list(uint32_t count, uint64_t seed, const struct ghixramel_image *image)
 {
     struct mix mix;
     uint64_t random = seed;
-    mix_begin(&mix, seed, (uint32_t)image->choice, (uint32_t)image->pins[0]);
+    mix_begin(&mix, mix_of_part(), seed, (uint32_t)image->choice, image->pins[0]);
     for (uint32_t i = 0; i < count; i++) {
         struct event event = mix_next(&mix);
-        int ignored = event.kind == GHIXRAMEL_START || event.kind == GHIXRAMEL_STOP || event.kind == GHIXRAMEL_RESET;
-        put_in_list(i, (struct whole_event){event.kind, ignored ? random_below(&random, UINT32_MAX) : event.argument, 0});
+        struct whole_event whole = {event.kind, (uint32_t)event.argument, (uint32_t)(event.argument >> 32)};
+        if (is_ignored(event.kind)) {
+            whole.argument = random_below(&random, UINT32_MAX);
+            whole.rest = part->largest_rest ? random_below(&random, UINT32_MAX) : 0;
+        }
+        put_in_list(i, whole);
     }
 }
 
@@ -61,7 +76,7 @@ static struct burst steps_on(const struct ghixramel *device, uint32_t first, uin
     struct burst single = burst_on(device);
     for (uint32_t i = 0; i < count; i++)
         want("refusal of a single step", GHIXRAMEL_DONE,
-             guarded_step(&single.device, list[first + i].kind, list[first + i].argument, single.answers + 2 * i));
+             guarded_step(&single.device, list[first + i].kind, whole_argument(list[first + i]), single.answers + 2 * i));
     single.done[0] = count;
     return single;
 }
@@ -114,12 +129,39 @@ static void refused_at(const struct ghixramel *device, uint32_t place, struct wh
 
 /* Each byte of a word counts; kinds and arguments with a byte over another's would pass if that were cut off. */
 static const uint32_t unknown_kinds[] = {6, 7, 0xFF, 0x100, 0x102, 0x10000, 0x1000001, 0x80000000, UINT32_MAX};
-static const uint32_t rests[] = {1, 2, 0x80, 0x100, 0x10000, 0x1000000, 0x80000000, UINT32_MAX};
+static const uint32_t rests[] = {1, 2, 3, 4, 0x80, 0x100, 0x10000, 0x1000000, 0x80000000, UINT32_MAX};
 static const struct whole_event bad_arguments[] = {
     {GHIXRAMEL_BYTE, 0x100, 0},         {GHIXRAMEL_BYTE, 0x10000, 0},       {GHIXRAMEL_BYTE, 0x1000000, 0}, {GHIXRAMEL_BYTE, UINT32_MAX, 0},
     {GHIXRAMEL_FETCH, 2, 0},            {GHIXRAMEL_FETCH, 0x100, 0},        {GHIXRAMEL_FETCH, 0x1000001, 0}, {GHIXRAMEL_FETCH, UINT32_MAX, 0},
-    {GHIXRAMEL_LEVELS, 0x1000000, 0},   {GHIXRAMEL_LEVELS, 0x80000000, 0},  {GHIXRAMEL_LEVELS, UINT32_MAX, 0},
+    {GHIXRAMEL_BYTE, 0, 1},             {GHIXRAMEL_FETCH, 1, 1},            {GHIXRAMEL_LEVELS, 0, 4},       {GHIXRAMEL_LEVELS, 1, 0x80000000},
 };
+
+/* Whether a third word passes with an argument that does: of the sister, where nobody looks at it or it has pins that there are. */
+static int passes(uint32_t kind, uint32_t rest)
+{
+    return part->largest_rest != 0 && (is_ignored(kind) || (kind == GHIXRAMEL_LEVELS && rest <= part->largest_rest));
+}
+
+/* An event that is not refused, in the place of another. */
+static void done_at(const struct ghixramel *device, uint32_t place, struct whole_event event)
+{
+    struct whole_event kept = list[place];
+    put_in_list(place, event);
+    want_burst(device, GHIXRAMEL_DONE, SMALL, SMALL * EVENT, SMALL, 2 * SMALL);
+    put_in_list(place, kept);
+}
+
+static void third_words_at(const struct ghixramel *device, uint32_t place, uint32_t kind)
+{
+    for EACH (i, rests)
+        for (uint32_t argument = 0; argument <= 1; argument++) {
+            struct whole_event event = {kind, argument ? UINT32_MAX : 0, rests[i]};
+            if (passes(kind, rests[i]))
+                done_at(device, place, event);
+            else
+                refused_at(device, place, event, GHIXRAMEL_BAD_ARGUMENT);
+        }
+}
 
 /* 1 comes before the third word and the argument; the third word before the argument has the same number. */
 static void refusals_at(const struct ghixramel *device, uint32_t place)
@@ -130,12 +172,12 @@ static void refusals_at(const struct ghixramel *device, uint32_t place)
         refused_at(device, place, (struct whole_event){unknown_kinds[i], UINT32_MAX, UINT32_MAX}, GHIXRAMEL_BAD_KIND);
     }
     for (uint32_t kind = 0; kind < KINDS; kind++)
-        for EACH (i, rests) {
-            refused_at(device, place, (struct whole_event){kind, 0, rests[i]}, GHIXRAMEL_BAD_ARGUMENT);
-            refused_at(device, place, (struct whole_event){kind, UINT32_MAX, rests[i]}, GHIXRAMEL_BAD_ARGUMENT);
-        }
+        third_words_at(device, place, kind);
     for EACH (i, bad_arguments)
         refused_at(device, place, bad_arguments[i], GHIXRAMEL_BAD_ARGUMENT);
+    uint64_t too_many = all_pins() + 1;
+    refused_at(device, place, (struct whole_event){GHIXRAMEL_LEVELS, (uint32_t)too_many, (uint32_t)(too_many >> 32)}, GHIXRAMEL_BAD_ARGUMENT);
+    done_at(device, place, (struct whole_event){GHIXRAMEL_LEVELS, (uint32_t)all_pins(), (uint32_t)(all_pins() >> 32)});
 }
 
 static void refused_in_the_middle(void)
@@ -206,7 +248,7 @@ static void eights(void)
     want_burst(&whole, GHIXRAMEL_DONE, MOST, GIVEN * EVENT, MOST, 2 * MOST);
     put_in_list(0, (struct whole_event){6, 0, 0});
     ways_of_eight(&whole);
-    put_in_list(0, (struct whole_event){GHIXRAMEL_START, 0, 1});
+    put_in_list(0, (struct whole_event){GHIXRAMEL_BYTE, 0, 1});
     ways_of_eight(&whole);
     ways_of_eight(&broken);
 }
@@ -249,7 +291,7 @@ static struct outcome one_by_one(const struct ghixramel *device)
 {
     struct outcome outcome = {.device = *device};
     for (uint32_t i = 0; i < CUT_EVENTS; i++)
-        want("refusal of a single step", GHIXRAMEL_DONE, guarded_step(&outcome.device, list[i].kind, list[i].argument, outcome.answers + 2 * i));
+        want("refusal of a single step", GHIXRAMEL_DONE, guarded_step(&outcome.device, list[i].kind, whole_argument(list[i]), outcome.answers + 2 * i));
     return outcome;
 }
 

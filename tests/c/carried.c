@@ -61,7 +61,7 @@ static void one_pin(uint32_t set, uint32_t pin)
     image.pins[set] = (uint64_t)1 << pin;
     carry_kept(image);
     for (int i = 0; i < 4; i++)
-        image.pins[i] = ALL_PINS;
+        image.pins[i] = all_pins();
     image.pins[set] ^= (uint64_t)1 << pin;
     carry_kept(image);
 }
@@ -71,10 +71,10 @@ static void one_status_bit(uint32_t pin)
 {
     struct ghixramel_image image = power_on_image(0, 0);
     about("one status bit", pin);
-    memset(image.registers + 0x54, 0x00, 3);
+    memset(image.registers + part->mask, 0x00, part->ports);
     image.pins[0] = (uint64_t)1 << pin;
     carry_kept(image);
-    image.pins[0] ^= ALL_PINS;
+    image.pins[0] ^= all_pins();
     carry_kept(image);
 }
 
@@ -85,28 +85,49 @@ static void single_bits(void)
             if (stored_bits(number) >> bit & 1)
                 one_bit(number, bit);
     for (uint32_t set = 0; set < 4; set++)
-        for (uint32_t pin = 0; pin < 24; pin++)
+        for (uint32_t pin = 0; pin < part->pins; pin++)
             one_pin(set, pin);
-    for (uint32_t pin = 0; pin < 24; pin++)
+    for (uint32_t pin = 0; pin < part->pins; pin++)
         one_status_bit(pin);
 }
 
-/* After every event the image is the peer's, its status and line are what the rest gives, and the peer's image makes the same state. */
-static void run_beside_peer(struct ghixramel *device, struct mix *mix)
+/* The peer knows the 24-pin part alone. */
+static int has_peer(void)
 {
-    struct ghixramel_image begun = image_of(device);
-    struct peer peer = peer_of_image(&begun);
+    return part->pins == 24;
+}
+
+/* The image is the peer's after every event, and makes the same state. */
+static void step_peer(struct peer *peer, struct event event, uint32_t answered, const struct ghixramel *device)
+{
+    uint8_t answer[2] = {0};
+    want("refusal by the peer", GHIXRAMEL_DONE, peer_step(peer, event.kind, event.argument, answer));
+    want("answer", (uint32_t)answer[0] << 8 | answer[1], answered);
+    struct ghixramel_image image = image_of(device), peers = image_of_peer(peer);
+    struct ghixramel from_peers = device_from(&peers);
+    SAME("image differs from the peer's", &peers, &image);
+    SAME("state differs from that of the peer's image", &from_peers, device);
+}
+
+/* After every event status and line are what the rest gives, no pin past the last is in a set or driven, and the image makes the state. */
+static void run(struct ghixramel *device, struct mix *mix)
+{
+    struct ghixramel_image image = image_of(device);
+    struct peer peer = peer_of_image(&image);
     for (int i = 0; i < EVENTS; i++) {
         struct event event = mix_next(mix);
-        uint8_t answer[2] = {0};
-        want("refusal by the peer", GHIXRAMEL_DONE, peer_step(&peer, event.kind, event.argument, answer));
-        want("answer", (uint32_t)answer[0] << 8 | answer[1], answer_to(device, event.kind, event.argument));
-        struct ghixramel_image image = image_of(device), peers = image_of_peer(&peer);
-        struct ghixramel from_peers = device_from(&peers);
+        uint64_t drives[2] = {0};
+        uint32_t answer = answer_to(device, event.kind, event.argument);
+        image = image_of(device);
         struct ghixramel_image worked_out = kept(image);
-        SAME("image differs from the peer's", &peers, &image);
+        struct ghixramel again = device_from(&image);
         SAME("status or line is not what pins and registers give", &worked_out, &image);
-        SAME("state differs from that of the peer's image", &from_peers, device);
+        SAME("state differs from that of its image", &again, device);
+        want("refusal of drives", GHIXRAMEL_DONE, guarded_drives(device, drives));
+        want("pins that there are not", 0,
+             (image.pins[0] | image.pins[1] | image.pins[2] | image.pins[3] | image.status | drives[0] | drives[1]) & ~all_pins());
+        if (has_peer())
+            step_peer(&peer, event, answer, device);
     }
 }
 
@@ -132,19 +153,30 @@ static void runs(void)
     uint64_t random = SEED;
     for (uint32_t i = 0; i < RUNS; i++) {
         struct mix mix;
-        struct ghixramel_image image = i % 2 ? random_image(&random) : power_on_image(i / 2 % 4, random_below(&random, ALL_PINS + 1));
+        struct ghixramel_image image = i % 2 ? random_image(&random) : power_on_image(i / 2 % 4, random_pins(&random));
         struct ghixramel device = device_from(&image);
         about("run", i);
-        mix_begin(&mix, SEED + i, (uint32_t)image.choice, (uint32_t)image.pins[0]);
-        run_beside_peer(&device, &mix);
+        mix_begin(&mix, mix_of_part(), SEED + i, (uint32_t)image.choice, image.pins[0]);
+        run(&device, &mix);
         want_reset(&device);
     }
+}
+
+/* The last register that is a group of its own. */
+static uint32_t last_of_one(void)
+{
+    uint32_t last = 0;
+    for (uint32_t i = 0; i < part->group_count; i++)
+        if (part->groups[i].first == part->groups[i].last && part->groups[i].stored)
+            last = part->groups[i].last;
+    return last;
 }
 
 /* Registers written upwards, and downwards over other values: nothing pends, so only the last values can be told. */
 static void write_in_two_orders(uint64_t *random)
 {
-    uint32_t choice = random_below(random, 4), levels = random_below(random, ALL_PINS + 1);
+    uint32_t choice = random_below(random, 4), last = last_of_one();
+    uint64_t levels = random_pins(random);
     struct ghixramel up = device_with(choice, levels), down = device_with(choice, levels);
     struct ghixramel_image image = random_image(random), wanted = power_on_image(choice, levels);
     memcpy(wanted.registers, image.registers, sizeof wanted.registers);
@@ -156,9 +188,10 @@ static void write_in_two_orders(uint64_t *random)
     for (uint32_t number = 0; number < REGISTERS; number++)
         if (stored_bits(number))
             write_register(&up, number, image.registers[number]);
-    /* The pointer is where the last transaction left it: at the register after 76, which is 76. */
-    write_register(&down, 0x76, image.registers[0x76]);
-    wanted.pointer = 0x76;
+    /* The pointer is where the last transaction left it, and a group of one stays. */
+    write_register(&up, last, image.registers[last]);
+    write_register(&down, last, image.registers[last]);
+    wanted.pointer = last;
     struct ghixramel carried = device_from(&wanted);
     SAME("state written upwards", &carried, &up);
     SAME("state written downwards", &carried, &down);

@@ -1,6 +1,7 @@
 #include "guarded.h"
 
 #include "checks.h"
+#include "parts.h"
 #include "stack.h"
 
 #include <libc.h>
@@ -79,59 +80,59 @@ static size_t most_used[FUNCTIONS];
 
 static void power_on(void)
 {
-    refusal = ghixramel_power_on(at, numbers.small, numbers.large);
+    refusal = part->calls.power_on(at, numbers.small, numbers.large);
 }
 
 static void step(void)
 {
-    refusal = ghixramel_step(at, numbers.small, numbers.large, lent.results.answer);
+    refusal = part->calls.step(at, numbers.small, numbers.large, lent.results.answer);
 }
 
 static void drives(void)
 {
-    refusal = ghixramel_drives(at, lent.results.drives);
+    refusal = part->calls.drives(at, lent.results.drives);
 }
 
 static void int_line(void)
 {
-    refusal = ghixramel_int(at, lent.results.asserted);
+    refusal = part->calls.int_line(at, lent.results.asserted);
 }
 
 static void show(void)
 {
-    refusal = ghixramel_show(at, numbers.small, lent.results.shown);
+    refusal = part->calls.show(at, numbers.small, lent.results.shown);
 }
 
 static void from_arrays(void)
 {
-    refusal = ghixramel_pack(at->words, lent.pins, lent.registers, lent.rest);
+    refusal = part->calls.pack(at->words, lent.pins, lent.registers, lent.rest);
 }
 
 static void from_struct(void)
 {
-    refusal = ghixramel_from_image(at, &lent.image);
+    refusal = part->calls.from_image(at, &lent.image);
 }
 
 static void to_arrays(void)
 {
-    refusal = ghixramel_unpack(at->words, lent.pins, lent.registers, lent.rest);
+    refusal = part->calls.unpack(at->words, lent.pins, lent.registers, lent.rest);
 }
 
 static void to_struct(void)
 {
-    refusal = ghixramel_to_image(at, &lent.image);
+    refusal = part->calls.to_image(at, &lent.image);
 }
 
 static void plan(void)
 {
-    refusal = ghixramel_plan(lent.start, numbers.start_bytes, lent.goal, numbers.goal_bytes, lent.results.buffer, numbers.buffer_bytes,
-                             lent.results.writes);
+    refusal = part->calls.plan(lent.start, numbers.start_bytes, lent.goal, numbers.goal_bytes, lent.results.buffer, numbers.buffer_bytes,
+                               lent.results.writes);
 }
 
 static void burst(void)
 {
-    refusal = ghixramel_burst(at, lent.burst.events, numbers.event_bytes, numbers.asked, lent.burst.answers, numbers.answer_bytes,
-                              lent.burst.done);
+    refusal = part->calls.burst(at, lent.burst.events, numbers.event_bytes, numbers.asked, lent.burst.answers, numbers.answer_bytes,
+                                lent.burst.done);
 }
 
 /* What a call may have written is laid over the copy from before. */
@@ -154,8 +155,8 @@ static void allow_image(void)
 /* A number of writes that is too large is a failed check. */
 static void allow_plan(void)
 {
-    int fits = lent.results.writes[0] <= GHIXRAMEL_MOST_WRITES;
-    want("a plan of at most 16 writes", 1, (uint64_t)fits);
+    int fits = lent.results.writes[0] <= part->most_writes;
+    want("a plan of as many writes as it may have", 1, (uint64_t)fits);
     allow(lent.results.writes, sizeof lent.results.writes);
     allow(lent.results.buffer, fits ? 2 * (size_t)lent.results.writes[0] : 0);
 }
@@ -315,7 +316,7 @@ static void comes_out(const struct ghixramel *device, const struct ghixramel_ima
 {
     struct ghixramel_image out;
     memset(&out, FILL, sizeof out);
-    want("refusal of the image of a state that came from one", GHIXRAMEL_DONE, ghixramel_to_image(device, &out));
+    want("refusal of the image of a state that came from one", GHIXRAMEL_DONE, part->calls.to_image(device, &out));
     want("image comes out other than it was taken", 0, memcmp(image, &out, sizeof out) != 0);
 }
 
@@ -323,7 +324,7 @@ static void goes_in(const struct ghixramel_image *image, const struct ghixramel 
 {
     struct ghixramel in;
     memset(&in, FILL, sizeof in);
-    want("refusal of an image that a state gave", GHIXRAMEL_DONE, ghixramel_from_image(&in, image));
+    want("refusal of an image that a state gave", GHIXRAMEL_DONE, part->calls.from_image(&in, image));
     want("image makes another state than gave it", 0, memcmp(device, &in, sizeof in) != 0);
 }
 

@@ -1,4 +1,4 @@
-/* The library's calls, each watched: made in memory with guard bytes around every array and on a stack of its own, and
+/* The library's calls for the part that the checks are about (parts.h), each watched: made in memory with guard bytes around every array and on a stack of its own, and
  * once more from the same beginning, with the state elsewhere in memory and the image as the struct where it was arrays.
  * Checked each time: a refused call changed no byte, another only its results, and a burst that ended early only those of
  * the events that it counts; both calls gave the same, so nothing was kept in between and the place did not matter. An
@@ -28,7 +28,7 @@ struct ghixramel guarded_device(const struct ghixramel_image *image);
 uint32_t guarded_plan(const uint8_t *start, uint64_t start_bytes, const uint8_t *goal, uint64_t goal_bytes, uint8_t *buffer,
                       uint64_t buffer_bytes, uint64_t writes[1]);
 
-/* Checks that no call so far used too much stack, and prints the most that each function used. */
+/* Checks that no call so far used too much stack, and prints the most that each function used, whatever its part. */
 void check_stacks(void);
 
 #endif

@@ -20,7 +20,7 @@ static inline const uint8_t *image_fields(const uint8_t *at, struct ghixramel_im
 
 static inline uint8_t *put_number(uint8_t *to, uint64_t number)
 {
-    return put_hex(put_hex(to, (uint32_t)(number >> 32), 8), (uint32_t)number, 8);
+    return put_pins(to, number, 16);
 }
 
 /* No tab after the last. */

@@ -1,8 +1,9 @@
 /* Plans of the library for lines START<tab>GOAL of lowercase hex, answered as the program plan does; so the model judges them. */
 #include "guarded.h"
+#include "parts.h"
 #include "peer_text.h"
 
-enum { MOST_LINE_BYTES = 4 * MOST_LENT_BYTES + 1, MOST_PLAN_BYTES = 4 + 5 * GHIXRAMEL_MOST_WRITES + 1 };
+enum { MOST_LINE_BYTES = 4 * MOST_LENT_BYTES + 1, MOST_PLAN_BYTES = 4 + 5 * MOST_LENT_BYTES / 2 + 1 };
 
 struct field {
     uint8_t bytes[MOST_LENT_BYTES];
@@ -34,13 +35,14 @@ static int read_fields(const uint8_t *line, size_t length, struct field *start, 
 
 static uint8_t *put_plan(uint8_t *to, const struct field *start, const struct field *goal)
 {
-    uint8_t pairs[GHIXRAMEL_PLAN_BYTES] = {0};
+    uint8_t pairs[MOST_LENT_BYTES] = {0};
     uint64_t writes[1] = {0};
-    uint32_t refusal = guarded_plan(start->bytes, start->count, goal->bytes, goal->count, pairs, sizeof pairs, writes);
+    uint32_t refusal = guarded_plan(start->bytes, start->count, goal->bytes, goal->count, pairs,
+                                    2 * part->most_writes, writes);
     if (refusal)
         return put_refusal(to, refusal);
     to = PUT_WORDS(to, "plan");
-    for (uint64_t n = 0; n < writes[0] && n < GHIXRAMEL_MOST_WRITES; n++)
+    for (uint64_t n = 0; n < writes[0] && n < part->most_writes; n++)
         to = put_hex(put_hex(put_byte(to, '\t'), pairs[2 * n], 2), pairs[2 * n + 1], 2);
     return put_byte(to, '\n');
 }

@@ -8,10 +8,10 @@
 
 #include <libc.h>
 
-enum { SETTING = GHIXRAMEL_SETTING_BYTES, ROOM = GHIXRAMEL_PLAN_BYTES, PORT_KIND_AT = 6, RANDOM_PAIRS = 400, SEED = 3 };
+enum { MOST_SETTING = 16, RANDOM_PAIRS = 400, SEED = 3 };
 
 struct setting {
-    uint8_t bytes[SETTING];
+    uint8_t bytes[MOST_SETTING];
 };
 
 struct plan {
@@ -24,17 +24,41 @@ struct drives {
     uint64_t low, high, inputs;
 };
 
-static const uint8_t numbers[SETTING] = {0x04, 0x05, 0x06, 0x0C, 0x0D, 0x0E, 0x5C, 0x70, 0x71, 0x72};
-
-/* Every pin of the other ports an input with output 1 and kinds 0. */
-static struct setting port_0(uint8_t output, uint8_t configuration, uint8_t port_kind, uint8_t pin_kind)
+static uint64_t room_for_plan(void)
 {
-    return (struct setting){{output, 0xFF, 0xFF, configuration, 0xFF, 0xFF, port_kind, pin_kind, 0x00, 0x00}};
+    return 2 * part->most_writes;
+}
+
+/* The bits that the register at a place has. */
+static uint8_t bits_at(uint32_t place)
+{
+    return bits_of(setting_number(place));
+}
+
+/* Every pin of the other ports an input with output 1 and kinds 0; of a port with fewer pins, what it has. */
+static struct setting one_port(uint32_t port, uint8_t output, uint8_t configuration, uint8_t port_kind, uint8_t pin_kind)
+{
+    struct setting setting = {0};
+    for (uint32_t place = 0; place < 2 * part->ports; place++)
+        setting.bytes[place] = bits_at(place);
+    setting.bytes[port] &= output;
+    setting.bytes[part->ports + port] &= configuration;
+    setting.bytes[2 * part->ports] = (uint8_t)(port_kind << port);
+    setting.bytes[2 * part->ports + 1 + port] = pin_kind & bits_at(2 * part->ports + 1 + port);
+    return setting;
+}
+
+static struct setting random_setting(uint64_t *random)
+{
+    struct setting setting = {0};
+    for (uint32_t place = 0; place < part->setting_bytes; place++)
+        setting.bytes[place] = (uint8_t)random_below(random, 256) & bits_at(place);
+    return setting;
 }
 
 static uint32_t plan(const struct setting *start, const struct setting *goal, uint64_t room, struct plan *plan)
 {
-    return guarded_plan(start->bytes, SETTING, goal->bytes, SETTING, plan->pairs, room, plan->writes);
+    return guarded_plan(start->bytes, part->setting_bytes, goal->bytes, part->setting_bytes, plan->pairs, room, plan->writes);
 }
 
 static struct drives drives_of(const struct ghixramel *device)
@@ -42,8 +66,10 @@ static struct drives drives_of(const struct ghixramel *device)
     uint64_t drives[2] = {0};
     want("refusal of drives", GHIXRAMEL_DONE, guarded_drives(device, drives));
     struct ghixramel_image image = image_of(device);
-    const uint8_t *configuration = image.registers + 0x0C;
-    return (struct drives){drives[0], drives[1], configuration[0] | (uint64_t)configuration[1] << 8 | (uint64_t)configuration[2] << 16};
+    uint64_t inputs = 0;
+    for (uint32_t port = 0; port < part->ports; port++)
+        inputs |= (uint64_t)image.registers[part->configuration + port] << 8 * port;
+    return (struct drives){drives[0], drives[1], inputs};
 }
 
 static uint64_t pins_that_differ(struct drives a, struct drives b)
@@ -54,8 +80,8 @@ static uint64_t pins_that_differ(struct drives a, struct drives b)
 static struct ghixramel device_set_to(const struct setting *setting)
 {
     struct ghixramel device = device_with(0, 0x5A5A5A);
-    for (int i = 0; i < SETTING; i++)
-        write_register(&device, numbers[i], setting->bytes[i]);
+    for (uint32_t i = 0; i < part->setting_bytes; i++)
+        write_register(&device, setting_number(i), setting->bytes[i]);
     return device;
 }
 
@@ -83,45 +109,53 @@ static void want_plan(const char *topic, const struct setting *start, const stru
 {
     struct plan given = {0};
     about(topic, 0);
-    want("refusal", GHIXRAMEL_DONE, plan(start, goal, ROOM, &given));
+    want("refusal", GHIXRAMEL_DONE, plan(start, goal, room_for_plan(), &given));
     run_plan(start, goal, &given);
 }
 
-static void plan_points(void)
+static void plan_points(uint32_t port)
 {
     struct plan none = {0};
-    struct setting start = port_0(0xFF, 0xFE, 0, 0x00), goal = port_0(0xFF, 0xFE, 1, 0x01);
-    about("pin 0 high at both ends while both kinds flip", 0);
-    want("refusal", GHIXRAMEL_NO_QUIET_WAY, plan(&start, &goal, ROOM, &none));
-    start = port_0(0xFE, 0xFE, 0, 0x00), goal = port_0(0xFE, 0xFE, 1, 0x01);
-    want_plan("pin 0 low at both ends while both kinds flip", &start, &goal);
-    start = port_0(0xFD, 0xFE, 0, 0x00), goal = port_0(0xFE, 0xFD, 0, 0x00);
-    want_plan("pin 0 from high to input with output 0, pin 1 the reverse", &start, &goal);
-    start = port_0(0xFF, 0xFF, 0, 0x00), goal = port_0(0x00, 0x00, 7, 0xFF);
+    struct setting start = one_port(port, 0xFF, 0xFE, 0, 0x00), goal = one_port(port, 0xFF, 0xFE, 1, 0x01);
+    about("a port's first pin high at both ends while both kinds flip", port);
+    want("refusal", GHIXRAMEL_NO_QUIET_WAY, plan(&start, &goal, room_for_plan(), &none));
+    start = one_port(port, 0xFE, 0xFE, 0, 0x00), goal = one_port(port, 0xFE, 0xFE, 1, 0x01);
+    want_plan("a port's first pin low at both ends while both kinds flip", &start, &goal);
+    start = one_port(port, 0xFD, 0xFE, 0, 0x00), goal = one_port(port, 0xFE, 0xFD, 0, 0x00);
+    want_plan("a port's first pin from high to input with output 0, its second the reverse", &start, &goal);
+    start = one_port(port, 0xFF, 0xFF, 0, 0x00), goal = one_port(port, 0x00, 0x00, 1, 0xFF);
     want_plan("all pins of a port from input to low", &start, &goal);
+}
+
+/* Every pin from input to low and every kind changes. */
+static void whole_points(void)
+{
+    struct setting start = {0}, goal = {0};
+    for (uint32_t place = 0; place < part->setting_bytes; place++)
+        (place < 2 * part->ports ? &start : &goal)->bytes[place] = bits_at(place);
+    want_plan("all pins from input to low, all kinds changed", &start, &goal);
+    want_plan("all pins from low to input, all kinds changed", &goal, &start);
 }
 
 static void no_writes(void)
 {
     uint64_t random = SEED;
-    for (int i = 0; i < SETTING; i++) {
-        struct setting both;
+    for (uint32_t i = 0; i < part->setting_bytes; i++) {
+        struct setting both = random_setting(&random);
         struct plan given = {0};
-        for (int n = 0; n < SETTING; n++)
-            both.bytes[n] = (uint8_t)random_below(&random, n == PORT_KIND_AT ? 8 : 256);
-        about("start equal to goal", (uint64_t)i);
-        want("refusal", GHIXRAMEL_DONE, plan(&both, &both, ROOM, &given));
+        about("start equal to goal", i);
+        want("refusal", GHIXRAMEL_DONE, plan(&both, &both, room_for_plan(), &given));
         want("number of writes", 0, given.writes[0]);
     }
 }
 
-/* Room for 32 bytes is asked of every plan, however short, and before a way is looked for. */
+/* Room for the longest plan is asked of every plan, however short, and before a way is looked for. */
 static void try_rooms(const struct setting *start, const struct setting *goal, uint32_t with_room)
 {
     struct plan given = {0};
     for (uint64_t room = 0; room <= MOST_LENT_BYTES; room++) {
         about("plan buffer of bytes", room);
-        want("refusal", room < ROOM ? GHIXRAMEL_BUFFER_SMALL : with_room, plan(start, goal, room, &given));
+        want("refusal", room < room_for_plan() ? GHIXRAMEL_BUFFER_SMALL : with_room, plan(start, goal, room, &given));
     }
 }
 
@@ -129,9 +163,9 @@ static void try_rooms(const struct setting *start, const struct setting *goal, u
 static void want_bad_setting(const uint8_t *start, uint64_t start_bytes, const uint8_t *goal, uint64_t goal_bytes)
 {
     struct plan none = {0};
-    want("refusal", GHIXRAMEL_BAD_SETTING, guarded_plan(start, start_bytes, goal, goal_bytes, none.pairs, ROOM, none.writes));
+    want("refusal", GHIXRAMEL_BAD_SETTING, guarded_plan(start, start_bytes, goal, goal_bytes, none.pairs, room_for_plan(), none.writes));
     want("refusal with a small buffer", GHIXRAMEL_BAD_SETTING,
-         guarded_plan(start, start_bytes, goal, goal_bytes, none.pairs, ROOM - 1, none.writes));
+         guarded_plan(start, start_bytes, goal, goal_bytes, none.pairs, room_for_plan() - 1, none.writes));
     want("refusal with no buffer", GHIXRAMEL_BAD_SETTING, guarded_plan(start, start_bytes, goal, goal_bytes, none.pairs, 0, none.writes));
 }
 
@@ -139,29 +173,34 @@ static void want_bad_setting(const uint8_t *start, uint64_t start_bytes, const u
 static void bad_settings(const struct setting *start, const struct setting *goal)
 {
     uint8_t longer_start[MOST_LENT_BYTES] = {0}, longer_goal[MOST_LENT_BYTES] = {0};
-    memcpy(longer_start, start->bytes, SETTING);
-    memcpy(longer_goal, goal->bytes, SETTING);
+    uint32_t whole = part->setting_bytes;
+    memcpy(longer_start, start->bytes, whole);
+    memcpy(longer_goal, goal->bytes, whole);
     for (uint64_t bytes = 0; bytes <= MOST_LENT_BYTES; bytes++) {
-        if (bytes == SETTING)
+        if (bytes == whole)
             continue;
         about("setting of bytes", bytes);
-        want_bad_setting(longer_start, bytes, goal->bytes, SETTING);
-        want_bad_setting(start->bytes, SETTING, longer_goal, bytes);
+        want_bad_setting(longer_start, bytes, goal->bytes, whole);
+        want_bad_setting(start->bytes, whole, longer_goal, bytes);
         want_bad_setting(longer_start, bytes, longer_goal, bytes);
     }
-    for (uint32_t value = 8; value <= UINT8_MAX; value++) {
-        struct setting wrong_start = *start, wrong_goal = *goal;
-        wrong_start.bytes[PORT_KIND_AT] = wrong_goal.bytes[PORT_KIND_AT] = (uint8_t)value;
-        about("5C of a setting", value);
-        want_bad_setting(wrong_start.bytes, SETTING, goal->bytes, SETTING);
-        want_bad_setting(start->bytes, SETTING, wrong_goal.bytes, SETTING);
-        want_bad_setting(wrong_start.bytes, SETTING, wrong_goal.bytes, SETTING);
-    }
+    for (uint32_t place = 0; place < whole; place++)
+        for (uint32_t value = 0; value <= UINT8_MAX; value++) {
+            struct setting wrong_start = *start, wrong_goal = *goal;
+            if ((value & (uint8_t)~bits_at(place)) == 0)
+                continue;
+            wrong_start.bytes[place] = wrong_goal.bytes[place] = (uint8_t)value;
+            about("unused bits of a setting, place", place);
+            want_bad_setting(wrong_start.bytes, whole, goal->bytes, whole);
+            want_bad_setting(start->bytes, whole, wrong_goal.bytes, whole);
+            want_bad_setting(wrong_start.bytes, whole, wrong_goal.bytes, whole);
+        }
 }
 
 static void plan_refusals(void)
 {
-    struct setting high = port_0(0xFF, 0xFE, 0, 0x00), flipped = port_0(0xFF, 0xFE, 1, 0x01), inputs = port_0(0xFF, 0xFF, 0, 0x00);
+    struct setting high = one_port(0, 0xFF, 0xFE, 0, 0x00), flipped = one_port(0, 0xFF, 0xFE, 1, 0x01);
+    struct setting inputs = one_port(0, 0xFF, 0xFF, 0, 0x00);
     try_rooms(&high, &flipped, GHIXRAMEL_NO_QUIET_WAY);
     try_rooms(&high, &high, GHIXRAMEL_DONE);
     try_rooms(&high, &inputs, GHIXRAMEL_DONE);
@@ -174,16 +213,12 @@ static void random_plans(void)
 {
     uint64_t random = SEED;
     for (int i = 0; i < RANDOM_PAIRS; i++) {
-        struct setting start, goal;
+        struct setting start = random_setting(&random), goal = random_setting(&random);
         struct plan given = {0};
-        for (int n = 0; n < SETTING; n++) {
-            start.bytes[n] = (uint8_t)random_below(&random, n == PORT_KIND_AT ? 8 : 256);
-            goal.bytes[n] = (uint8_t)random_below(&random, n == PORT_KIND_AT ? 8 : 256);
-        }
         if (i % 2 == 0)
-            goal.bytes[PORT_KIND_AT] = start.bytes[PORT_KIND_AT];
+            goal.bytes[2 * part->ports] = start.bytes[2 * part->ports];
         about("random plan", (uint64_t)i);
-        uint32_t refusal = plan(&start, &goal, ROOM, &given);
+        uint32_t refusal = plan(&start, &goal, room_for_plan(), &given);
         if (refusal == GHIXRAMEL_DONE)
             run_plan(&start, &goal, &given);
         else
@@ -193,7 +228,9 @@ static void random_plans(void)
 
 void check_plans(void)
 {
-    plan_points();
+    for (uint32_t port = 0; port < part->ports; port++)
+        plan_points(port);
+    whole_points();
     no_writes();
     plan_refusals();
     random_plans();

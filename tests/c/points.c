@@ -4,18 +4,17 @@
 #include "images.h"
 #include "master.h"
 
-enum { INPUT = 0x00, OUTPUT = 0x04, CONFIGURATION = 0x0C, LATCH = 0x48, MASK = 0x54 };
-enum { PORT_KIND = 0x5C, EDGE = 0x60, CLEAR = 0x68, PIN_KIND = 0x70 };
+enum { INPUT = 0x00 };
 enum { PIN_0 = 0x01, ALL_BUT_PIN_0 = 0xFE, WHOLE_PORT = 0xFF, RISING = 0x01, EITHER = 0x03 };
 
 static void worked_example(void)
 {
-    static const struct {
+    const struct {
         uint32_t kind;
         uint64_t argument;
         uint32_t answer, asserted; /* pin 0 is the one that asserts */
     } events[] = {
-        {GHIXRAMEL_START, 0, NOTHING, 0}, {GHIXRAMEL_BYTE, 0x44, ACK, 0},           {GHIXRAMEL_BYTE, 0x54, ACK, 0},
+        {GHIXRAMEL_START, 0, NOTHING, 0}, {GHIXRAMEL_BYTE, 0x44, ACK, 0},           {GHIXRAMEL_BYTE, part->mask, ACK, 0},
         {GHIXRAMEL_BYTE, 0xFE, ACK, 0},   {GHIXRAMEL_LEVELS, 0x000001, NOTHING, 1},
     };
     about("worked example, at power-on", 0);
@@ -36,15 +35,15 @@ static void drive_points(void)
 {
     struct ghixramel device = device_with(0, 0);
     about("configuration 0, output 1, port kind 0, pin kind 1", 0);
-    write_register(&device, CONFIGURATION, ALL_BUT_PIN_0);
+    write_register(&device, part->configuration, ALL_BUT_PIN_0);
     want_drives(&device, 0, PIN_0);
-    write_register(&device, PIN_KIND, PIN_0);
+    write_register(&device, part->pin_kind, PIN_0);
     want_drives(&device, 0, 0);
     about("port kind 1 too", 0);
-    write_register(&device, PORT_KIND, 1);
+    write_register(&device, part->port_kind, 1);
     want_drives(&device, 0, PIN_0);
     about("output 0", 0);
-    write_register(&device, OUTPUT, ALL_BUT_PIN_0);
+    write_register(&device, part->output, ALL_BUT_PIN_0);
     want_drives(&device, PIN_0, 0);
 }
 
@@ -63,9 +62,9 @@ static void pointer_after(uint32_t number, uint32_t wanted)
 
 static void pointer_points(void)
 {
-    for (int i = 0; i < GROUPS; i++)
-        for (uint32_t number = groups[i].first; number <= groups[i].last; number++)
-            pointer_after(number, number == groups[i].last ? groups[i].first : number + 1);
+    for (uint32_t i = 0; i < part->group_count; i++)
+        for (uint32_t number = part->groups[i].first; number <= part->groups[i].last; number++)
+            pointer_after(number, number == part->groups[i].last ? part->groups[i].first : number + 1);
 }
 
 static void rise_and_fall(struct ghixramel *device)
@@ -78,8 +77,8 @@ static void interrupt_points(void)
 {
     about("latched pin 0, 1, 0", 0);
     struct ghixramel device = device_with(0, 0);
-    write_register(&device, MASK, ALL_BUT_PIN_0);
-    write_register(&device, LATCH, PIN_0);
+    write_register(&device, part->mask, ALL_BUT_PIN_0);
+    write_register(&device, part->latch, PIN_0);
     rise_and_fall(&device);
     want("INT", 1, int_of(&device));
     want("first fetch", 1, read_register(&device, INPUT));
@@ -88,7 +87,7 @@ static void interrupt_points(void)
 
     about("unlatched pin 0, 1, 0", 0);
     device = device_with(0, 0);
-    write_register(&device, MASK, ALL_BUT_PIN_0);
+    write_register(&device, part->mask, ALL_BUT_PIN_0);
     set_levels(&device, PIN_0);
     want("INT at 1", 1, int_of(&device));
     set_levels(&device, 0);
@@ -99,16 +98,16 @@ static void edge_points(void)
 {
     about("rising field, latch 0, unmasked", 0);
     struct ghixramel device = device_with(0, 0);
-    write_register(&device, MASK, ALL_BUT_PIN_0);
-    write_register(&device, EDGE, RISING);
+    write_register(&device, part->mask, ALL_BUT_PIN_0);
+    write_register(&device, part->edge, RISING);
     rise_and_fall(&device);
     want("INT", 1, int_of(&device));
 
     about("rising field, masked during the edges, unmasked after", 0);
     device = device_with(0, 0);
-    write_register(&device, EDGE, RISING);
+    write_register(&device, part->edge, RISING);
     rise_and_fall(&device);
-    write_register(&device, MASK, ALL_BUT_PIN_0);
+    write_register(&device, part->mask, ALL_BUT_PIN_0);
     want("INT", 0, int_of(&device));
 }
 
@@ -116,10 +115,10 @@ static void edge_points(void)
 static struct ghixramel moved_output(uint32_t latch, uint32_t field)
 {
     struct ghixramel device = device_with(0, 0);
-    write_register(&device, MASK, ALL_BUT_PIN_0);
-    write_register(&device, LATCH, latch);
-    write_register(&device, EDGE, field);
-    write_register(&device, CONFIGURATION, ALL_BUT_PIN_0);
+    write_register(&device, part->mask, ALL_BUT_PIN_0);
+    write_register(&device, part->latch, latch);
+    write_register(&device, part->edge, field);
+    write_register(&device, part->configuration, ALL_BUT_PIN_0);
     set_levels(&device, PIN_0);
     want("INT while it is an output", 0, int_of(&device));
     return device;
@@ -127,7 +126,7 @@ static struct ghixramel moved_output(uint32_t latch, uint32_t field)
 
 static void want_turned(struct ghixramel *device, uint32_t asserted, uint64_t reference, uint64_t held)
 {
-    write_register(device, CONFIGURATION, WHOLE_PORT);
+    write_register(device, part->configuration, WHOLE_PORT);
     struct ghixramel_image image = image_of(device);
     want("INT once it is an input", asserted, int_of(device));
     want("status", asserted ? PIN_0 : 0, image.status);
@@ -154,7 +153,7 @@ static void ringing_turns(void)
 
     about("output latched while it is one, turned to input away from its reference", 0);
     device = moved_output(0, 0);
-    write_register(&device, LATCH, PIN_0);
+    write_register(&device, part->latch, PIN_0);
     want("held while it is an output", 0, image_of(&device).pins[2]);
     want_turned(&device, 1, 0, PIN_0);
 }
@@ -173,7 +172,7 @@ static void quiet_turns(uint32_t latch)
 
     about("output cleared before the turn to input, latch", latch);
     device = moved_output(latch, 0);
-    write_register(&device, CLEAR, PIN_0);
+    write_register(&device, part->clear, PIN_0);
     want_turned(&device, 0, PIN_0, 0);
 
     for (uint32_t field = RISING; field <= EITHER; field++) {
@@ -184,10 +183,10 @@ static void quiet_turns(uint32_t latch)
 
     about("masked, turned to input, cleared, unmasked, latch", latch);
     device = moved_output(latch, 0);
-    write_register(&device, MASK, WHOLE_PORT);
+    write_register(&device, part->mask, WHOLE_PORT);
     want_turned(&device, 0, 0, latch);
-    write_register(&device, CLEAR, PIN_0);
-    write_register(&device, MASK, ALL_BUT_PIN_0);
+    write_register(&device, part->clear, PIN_0);
+    write_register(&device, part->mask, ALL_BUT_PIN_0);
     want("INT", 0, int_of(&device));
 }
 
@@ -195,9 +194,9 @@ static void quiet_turns(uint32_t latch)
 static void marked_output(uint32_t latch, uint32_t field)
 {
     struct ghixramel_image image = power_on_image(0, 0);
-    image.registers[CONFIGURATION] = image.registers[MASK] = ALL_BUT_PIN_0;
-    image.registers[LATCH] = (uint8_t)latch;
-    image.registers[EDGE] = (uint8_t)field;
+    image.registers[part->configuration] = image.registers[part->mask] = ALL_BUT_PIN_0;
+    image.registers[part->latch] = (uint8_t)latch;
+    image.registers[part->edge] = (uint8_t)field;
     image.pins[2] = image.pins[3] = PIN_0;
     about("output with marks turned to input, field", field);
     struct ghixramel device = device_from(&image);
@@ -208,8 +207,8 @@ static void input_written_again(void)
 {
     about("input written as one again", 0);
     struct ghixramel device = device_with(0, 0);
-    write_register(&device, MASK, ALL_BUT_PIN_0);
-    write_register(&device, LATCH, PIN_0);
+    write_register(&device, part->mask, ALL_BUT_PIN_0);
+    write_register(&device, part->latch, PIN_0);
     rise_and_fall(&device);
     want_turned(&device, 1, 0, PIN_0);
 }
@@ -224,10 +223,60 @@ static void direction_points(void)
     input_written_again();
 }
 
+/* Every bit that a register has comes back, no other does, and a reset has the defaults. */
+static void written_and_read(void)
+{
+    static const uint8_t values[] = {0xFF, 0x00, 0xA5, 0x5A};
+    for (uint32_t number = 0; number < REGISTERS; number++)
+        for (uint32_t i = 0; stored_bits(number) && i < sizeof values; i++) {
+            struct ghixramel device = device_with(0, all_pins());
+            about("written and read register", number);
+            write_register(&device, number, values[i]);
+            want("entry", values[i] & stored_bits(number), image_of(&device).registers[number]);
+            want("byte read", values[i] & stored_bits(number), read_register(&device, number));
+            want("answer to a reset", NOTHING, answer_to(&device, GHIXRAMEL_RESET, 0));
+            want("byte read after a reset", power_on_entry(number), read_register(&device, number));
+        }
+}
+
+/* The registers of one group from its first on, all with one value. */
+static void write_group(struct ghixramel *device, uint32_t first, uint32_t value)
+{
+    begin_write(device, first);
+    for (uint32_t number = first; number <= group_of(first)->last; number++)
+        want("answer to data", ACK, send_byte(device, value));
+    stop(device);
+}
+
+/* All pins and no other are driven, read and pending, though every bit of their registers was written. */
+static void all_pins_points(void)
+{
+    about("all pins", part->pins);
+    struct ghixramel device = device_with(0, 0);
+    write_group(&device, part->mask, 0x00);
+    write_group(&device, part->latch, 0xFF);
+    set_levels(&device, all_pins());
+    want("status", all_pins(), image_of(&device).status);
+    want("last input port", bits_of(part->ports - 1), read_register(&device, part->ports - 1));
+    write_group(&device, part->polarity, 0xFF);
+    set_levels(&device, 0);
+    write_group(&device, part->clear, 0xFF);
+    want("last input port, inverted", bits_of(part->ports - 1), read_register(&device, part->ports - 1));
+    write_group(&device, part->configuration, 0x00);
+    want_drives(&device, 0, all_pins());
+    write_group(&device, part->output, 0x00);
+    want_drives(&device, all_pins(), 0);
+    write_group(&device, part->output, 0xFF);
+    write_group(&device, part->port_kind, 0xFF);
+    want_drives(&device, 0, 0);
+    write_group(&device, part->pin_kind, 0xFF);
+    want_drives(&device, 0, all_pins());
+}
+
 static struct ghixramel armed_device(void)
 {
     struct ghixramel device = device_with(0, 0);
-    write_register(&device, OUTPUT, 0x00);
+    write_register(&device, part->output, 0x00);
     start(&device);
     want("answer to 00h", ACK, send_byte(&device, 0x00));
     want("answer to 06h", ACK, send_byte(&device, 0x06));
@@ -240,31 +289,31 @@ static void reset_points(void)
     struct ghixramel device = armed_device();
     start(&device);
     stop(&device);
-    want("output register", 0x00, read_register(&device, OUTPUT));
+    want("output register", 0x00, read_register(&device, part->output));
 
     about("00h, 06h, one byte more, STOP", 0);
     device = armed_device();
     want("answer to the byte", NAK, send_byte(&device, 0x06));
     stop(&device);
-    want("output register", 0x00, read_register(&device, OUTPUT));
+    want("output register", 0x00, read_register(&device, part->output));
 
     about("00h, 06h, STOP", 0);
     device = armed_device();
     stop(&device);
     want("pointer", 0x00, image_of(&device).pointer);
     want("bus state", GHIXRAMEL_IDLE, image_of(&device).bus);
-    want("output register", 0xFF, read_register(&device, OUTPUT));
+    want("output register", 0xFF, read_register(&device, part->output));
 }
 
 static void command_points(void)
 {
-    about("command 03h", 0);
+    about("reserved command", part->reserved);
     struct ghixramel device = device_with(0, 0);
-    write_register(&device, OUTPUT, 0x00);
+    write_register(&device, part->output, 0x00);
     start(&device);
     want("answer to the address", ACK, send_byte(&device, 0x40));
-    want("answer to the command", NAK, send_byte(&device, 0x03));
-    want("pointer", OUTPUT + 1, image_of(&device).pointer);
+    want("answer to the command", NAK, send_byte(&device, part->reserved));
+    want("pointer", part->output + 1, image_of(&device).pointer);
     want("bus state", GHIXRAMEL_DEAF, image_of(&device).bus);
     want("answer to a byte after it", NAK, send_byte(&device, 0x00));
 }
@@ -277,6 +326,8 @@ void check_points(void)
     interrupt_points();
     edge_points();
     direction_points();
+    written_and_read();
+    all_pins_points();
     reset_points();
     command_points();
 }

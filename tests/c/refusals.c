@@ -12,10 +12,23 @@
 enum { RANDOM_IMAGES = 3, SEED = 1 };
 
 static const uint32_t unknown_kinds[] = {6, 7, 8, 0xFF, 0x100, 0x102, 0x10000, 0x80000000, UINT32_MAX};
-/* The last number that passes for each kind; UINT64_MAX where the argument is ignored. */
-static const uint64_t largest_argument[KINDS] = {UINT64_MAX, UINT64_MAX, 0xFF, 1, ALL_PINS, UINT64_MAX};
 /* Zero in their low bytes, so that a cut-off number would pass. */
-static const uint64_t far_too_large[] = {0x1000000, 0x100000000, 0x8000000000000000, UINT64_MAX};
+static const uint64_t far_too_large[] = {0x1000000, 0x100000000, 0x400000000, 0x1000000000, 0x8000000000000000, UINT64_MAX};
+
+/* The last number that passes for a kind; UINT64_MAX where the argument is ignored. */
+static uint64_t largest_argument(uint32_t kind)
+{
+    switch (kind) {
+    case GHIXRAMEL_BYTE:
+        return 0xFF;
+    case GHIXRAMEL_FETCH:
+        return 1;
+    case GHIXRAMEL_LEVELS:
+        return all_pins();
+    default:
+        return UINT64_MAX;
+    }
+}
 
 #define EACH(item, table) (uint32_t item = 0; item < sizeof(table) / sizeof *(table); item++)
 
@@ -33,12 +46,14 @@ static void try_arguments(const struct ghixramel *whole)
 {
     for (uint32_t kind = 0; kind < KINDS; kind++) {
         about("arguments of event kind", kind);
-        want("refusal of the largest", GHIXRAMEL_DONE, step_refusal(whole, kind, largest_argument[kind]));
-        if (largest_argument[kind] == UINT64_MAX)
+        uint64_t largest = largest_argument(kind);
+        want("refusal of the largest", GHIXRAMEL_DONE, step_refusal(whole, kind, largest));
+        if (largest == UINT64_MAX)
             continue;
-        want("refusal of one more", GHIXRAMEL_BAD_ARGUMENT, step_refusal(whole, kind, largest_argument[kind] + 1));
+        want("refusal of one more", GHIXRAMEL_BAD_ARGUMENT, step_refusal(whole, kind, largest + 1));
         for EACH (i, far_too_large)
-            want("refusal of many more", GHIXRAMEL_BAD_ARGUMENT, step_refusal(whole, kind, far_too_large[i]));
+            want("refusal of a large one", far_too_large[i] <= largest ? GHIXRAMEL_DONE : GHIXRAMEL_BAD_ARGUMENT,
+                 step_refusal(whole, kind, far_too_large[i]));
     }
 }
 
@@ -107,7 +122,7 @@ static void want_power_on(uint32_t choice, uint64_t levels)
     want("line", 1, image.line);
     for (uint32_t number = 0; number < REGISTERS; number++) {
         about("register after power-on", number);
-        want("value", group_of(number) ? group_of(number)->power_on : 0, image.registers[number]);
+        want("value", power_on_entry(number), image.registers[number]);
     }
 }
 
@@ -117,10 +132,11 @@ void check_bounds(void)
     struct ghixramel device = {0};
     for (uint32_t choice = 0; choice < 4; choice++) {
         want_power_on(choice, 0);
-        want_power_on(choice, ALL_PINS);
+        want_power_on(choice, all_pins());
         for EACH (i, far_too_large) {
             about("power-on with levels", far_too_large[i]);
-            want("refusal", GHIXRAMEL_BAD_ARGUMENT, power_on_refusal(choice, far_too_large[i], &device));
+            want("refusal", far_too_large[i] <= all_pins() ? GHIXRAMEL_DONE : GHIXRAMEL_BAD_ARGUMENT,
+                 power_on_refusal(choice, far_too_large[i], &device));
         }
     }
     for EACH (i, wrong_choices) {

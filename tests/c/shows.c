@@ -14,6 +14,7 @@ static void show_beside_fetch(const struct ghixramel *device, uint32_t number)
     about("show of register", number);
     want("refusal", GHIXRAMEL_DONE, guarded_show(device, number, shown));
     want("byte that a fetch gives", read_register(&fetched_from, number), shown[0]);
+    want("unused bits that are shown", 0, shown[0] & (uint8_t)~bits_of(number));
 }
 
 static void show_of_no_register(const struct ghixramel *device, uint32_t number)

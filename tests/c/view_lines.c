@@ -1,6 +1,7 @@
 /* Views of the library for lines of an image's ten fields and a register number: the byte that a fetch would show, INT, the pins
  * driven low and high, as the program trace answers; in the place of what was refused its refusal. So the model judges them. */
 #include "guarded.h"
+#include "parts.h"
 #include "image_lines.h"
 #include "peer_text.h"
 
@@ -46,8 +47,8 @@ static uint8_t *put_drives(uint8_t *to, const struct ghixramel *device)
     uint32_t refusal = guarded_drives(device, drives);
     if (refusal)
         return put_refused(to, refusal);
-    to = put_hex(to, (uint32_t)drives[0], 6);
-    return put_hex(put_byte(to, '\t'), (uint32_t)drives[1], 6);
+    to = put_pins(to, drives[0], part->digits);
+    return put_pins(put_byte(to, '\t'), drives[1], part->digits);
 }
 
 static uint8_t *put_views(uint8_t *to, const struct asked *asked)

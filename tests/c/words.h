@@ -4,11 +4,12 @@
 
 #include <ghixramel.h>
 
-enum { WORDS = 28, STATUS_WORD = 19, LINE_WORD = 20, POINTER_WORD = 21, PART_WORD = 27 };
+enum { PORT_KIND_WORD = 7, DEBOUNCE_WORD = 17, DEBOUNCE_COUNT_WORD = 18, STATUS_WORD = 19, LINE_WORD = 20, POINTER_WORD = 21 };
+enum { BUS_WORD = 22, CHOICE_WORD = 23, PART_WORD = 27, WORDS = 28 };
 
-/* The bits of each word that can be other than 0; of the pointer not all of their numbers can stand, and of status and
- * line only what the other words give. */
-extern const uint64_t word_bits[WORDS];
+/* The bits of a word that can be other than 0; of the pointer not all of their numbers can stand, of the part only all of
+ * them, and of status and line only what the other words give. */
+uint64_t bits_of_word(uint32_t word);
 
 /* The state that has the image. */
 struct ghixramel words_of(const struct ghixramel_image *image);

@@ -1,0 +1,57 @@
+#include "parts.h"
+
+/* A program over one part is linked with that one first. */
+#ifndef FIRST_PART
+#define FIRST_PART 0
+#endif
+
+static const struct group groups24[] = {
+    {0x00, 0x02, 0x00, 0xFF, 0}, /* input port */
+    {0x04, 0x06, 0xFF, 0xFF, 1}, /* output */
+    {0x08, 0x0A, 0x00, 0xFF, 1}, /* polarity */
+    {0x0C, 0x0E, 0xFF, 0xFF, 1}, /* configuration */
+    {0x40, 0x45, 0xFF, 0xFF, 1}, /* drive strength */
+    {0x48, 0x4A, 0x00, 0xFF, 1}, /* input latch */
+    {0x4C, 0x4E, 0x00, 0xFF, 1}, /* pull enable */
+    {0x50, 0x52, 0xFF, 0xFF, 1}, /* pull select */
+    {0x54, 0x56, 0xFF, 0xFF, 1}, /* interrupt mask */
+    {0x58, 0x5A, 0x00, 0xFF, 0}, /* interrupt status */
+    {0x5C, 0x5C, 0x00, 0x07, 1}, /* output port kind */
+    {0x60, 0x65, 0x00, 0xFF, 1}, /* interrupt edge */
+    {0x68, 0x6A, 0x00, 0xFF, 0}, /* interrupt clear */
+    {0x6C, 0x6E, 0x00, 0xFF, 0}, /* input status */
+    {0x70, 0x72, 0x00, 0xFF, 1}, /* pin output kind */
+    {0x74, 0x75, 0x00, 0xFF, 1}, /* debounce enable */
+    {0x76, 0x76, 0x00, 0xFF, 1}, /* debounce count */
+};
+
+#define COUNT(table) (sizeof(table) / sizeof *(table))
+
+#define CALLS(prefix)                                                                                                                \
+    {                                                                                                                                \
+        prefix##_power_on, prefix##_step, prefix##_burst, prefix##_drives, prefix##_int, prefix##_show, prefix##_pack,               \
+            prefix##_unpack, prefix##_to_image, prefix##_from_image, prefix##_plan                                                   \
+    }
+
+const struct part parts[] = {
+    {
+        .number = 0, .pins = 24, .ports = 3, .digits = 6, .groups = groups24, .group_count = COUNT(groups24),
+        .output = 0x04, .polarity = 0x08, .configuration = 0x0C, .strength = 0x40, .latch = 0x48, .pull_enable = 0x4C,
+        .pull_select = 0x50, .mask = 0x54, .port_kind = 0x5C, .edge = 0x60, .clear = 0x68, .pin_kind = 0x70,
+        .debounce = 0x74, .debounce_bytes = 2, .debounce_count = 0x76, .reserved = 0x03,
+        .setting_bytes = 10, .most_writes = 16, .largest_rest = 0, .calls = CALLS(ghixramel),
+    },
+};
+
+const uint32_t part_count = COUNT(parts);
+
+const struct part *part = &parts[FIRST_PART];
+
+uint8_t setting_number(uint32_t place)
+{
+    if (place < part->ports)
+        return (uint8_t)(part->output + place);
+    if (place < 2 * part->ports)
+        return (uint8_t)(part->configuration + place - part->ports);
+    return place == 2 * part->ports ? part->port_kind : (uint8_t)(part->pin_kind + place - 2 * part->ports - 1);
+}
