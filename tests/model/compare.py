@@ -1,7 +1,7 @@
 """A program under test against the model: python3 compare.py WHAT COMMAND... [--seed N] [--count N].
 
-WHAT is trace (logs of both parts in turns), trace24 (no readable device34 line), or probe, plan, views or burst for the
-24-pin part and probe34, plan34, views34 or burst34 for its sister.
+WHAT is trace (logs of both parts in turns), trace24 or trace34 (of one alone, for programs that know no other), or
+probe, plan, views or burst for the 24-pin part and probe34, plan34, views34 or burst34 for its sister.
 """
 
 import random
@@ -169,13 +169,11 @@ COMPARED = {'probe': compare_probe, 'plan': compare_plan, 'views': compare_views
 
 
 def comparison(what):
-    """What is compared and its name without the part; None if it is unknown."""
-    name = what[:-2] if what[-2:] in ('24', '34') else what
-    if what in ('trace', 'trace24'):
-        return 'trace', lambda *given: compare_trace((24,) if what == 'trace24' else tuple(PARTS), *given)
-    if name not in COMPARED:
-        return name, None
-    return name, lambda *given: COMPARED[name](34 if what.endswith('34') else 24, *given)
+    """The name of what is compared without its part, and the comparison; None for one that is unknown."""
+    name, which = (what[:-2], int(what[-2:])) if what[-2:] in ('24', '34') else (what, None)
+    if name == 'trace':
+        return name, lambda *given: compare_trace((which,) if which else tuple(PARTS), *given)
+    return name, COMPARED.get(name) and (lambda *given: COMPARED[name](which or 24, *given))
 
 
 def main(words):
