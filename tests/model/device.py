@@ -64,12 +64,13 @@ class Part:
         self.pins, self.groups, self.most_writes = pins, groups, most_writes
         self.ports, self.limit = (pins + 7) // 8, 1 << pins
         self.named = {group.name: group for group in groups}
-        # The group of each command number, None where the number is reserved; the bits that each number has.
-        self.map, self.bits = [None] * 128, [0] * 128
+        # The group of each command number, None where the number is reserved; the bits that each number has, and stores.
+        self.map, self.bits, self.stored = [None] * 128, [0] * 128, [0] * 128
         for group in groups:
             for number in range(group.first, group.last + 1):
                 self.map[number] = group
                 self.bits[number] = group.bits if number == group.last else 0xFF
+                self.stored[number] = self.bits[number] if group.stored else 0
         (self.output, self.polarity, self.configuration, self.latch, self.mask, self.port_kind, self.edge, self.clear,
          self.pin_kind) = (self.named[name].first for name in (
              'output', 'polarity', 'configuration', 'input latch', 'interrupt mask', 'output port kind',
@@ -80,14 +81,9 @@ class Part:
         self.digits = (pins + 3) // 4
         self.wide = pins > 32
 
-    def stored_bits(self, number):
-        """The bits of an entry that can be other than 0."""
-        group = self.map[number]
-        return self.bits[number] if group and group.stored else 0
-
     def power_on(self):
         """The register file after power-on: what is not stored, and unused bits, hold 0."""
-        return [group.default & self.stored_bits(number) if group else 0 for number, group in enumerate(self.map)]
+        return [group.default & stored if group else 0 for group, stored in zip(self.map, self.stored)]
 
 
 # By the number of their pins.
@@ -158,8 +154,8 @@ class Device:
                 or self.bus_broken(image.bus)
                 or self.choice_broken(image.choice)
                 or self.pin_sets_broken(image)
-                or any(self.unused_broken(n, image.registers[n]) or self.entry_broken(n, image.registers[n])
-                       for n in range(128))
+                or any(self.unused_broken(n, value) or self.entry_broken(n, value)
+                       for n, value in enumerate(image.registers) if value)
                 or self.status_broken(image.status)
                 or self.line_broken(image.line))
 
@@ -708,7 +704,12 @@ def settings_image(which, setting, rest):
     return kept_image(which, rest._replace(registers=tuple(registers)))
 
 
+@lru_cache(maxsize=None)
+def power_on_image(which):
+    return Device.make(which, 0, 0).image()
+
+
 @lru_cache(maxsize=16)
 def settings_drives(which, setting):
     """The drive of each pin under the bytes of a setting."""
-    return tuple(Device(which, settings_image(which, setting, Device.make(which, 0, 0).image())).drives())
+    return tuple(Device(which, settings_image(which, setting, power_on_image(which))).drives())

@@ -15,12 +15,12 @@ def reserved(which):
 
 def unstored(which):
     """The numbers whose entry is 0 in every image that is not broken."""
-    return [number for number in range(128) if PARTS[which].stored_bits(number) == 0]
+    return [number for number in range(128) if PARTS[which].stored[number] == 0]
 
 
 def partly_stored(which):
     """The numbers that have unused bits: of the 24-pin part the output port kind alone."""
-    return [number for number in range(128) if 0 < PARTS[which].stored_bits(number) < 0xFF]
+    return [number for number in range(128) if 0 < PARTS[which].stored[number] < 0xFF]
 
 
 KNOWN, RESERVED, UNSTORED, PARTLY_STORED = (

@@ -102,7 +102,7 @@ def exists(which, start, goal):
 def random_rest(which, rng):
     """A random image, its bus Idle so that the writes can be sent; well formed once it is at a setting."""
     part = PARTS[which]
-    registers = [rng.randrange(256) & part.stored_bits(number) for number in range(128)]
+    registers = [rng.getrandbits(8) & stored if stored else 0 for stored in part.stored]
     pointer = rng.choice([n for n in range(128) if part.map[n]])
     marks = (rng.randrange(part.limit) for _ in range(4))
     return Image(tuple(registers), *marks, pointer, 0, rng.randrange(4), 0, QUIET)
