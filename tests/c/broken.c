@@ -299,6 +299,8 @@ static void try_other_parts(void)
             struct ghixramel others = device_from(&image);
             part = tried;
             want_broken("state that another part's call made", (uint64_t)n, &others);
+            if (n == 0)
+                want_image_broken("image of another part at power-on", i, &image);
         }
     }
 }
