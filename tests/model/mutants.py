@@ -2502,20 +2502,23 @@ class LongerSettingsPass(Planner):
         return len(setting) < len(self.part.settings)
 
 
-@planner_on(34)
+def without_unused(part, setting):
+    """A whole setting without its unused bits."""
+    if len(setting) != len(part.settings):
+        return setting
+    return bytes(value & part.bits[number] for value, number in zip(setting, part.settings))
+
+
+@planner
 class UnusedBitsOfStartPass(Planner):
     def refusal(self, start, goal, room):
-        start = bytes(value & self.part.bits[number] for value, number in zip(start, self.part.settings)) if len(
-            start) == len(self.part.settings) else start
-        return super().refusal(start, goal, room)
+        return super().refusal(without_unused(self.part, start), goal, room)
 
 
-@planner_on(34)
+@planner
 class UnusedBitsOfGoalPass(Planner):
     def refusal(self, start, goal, room):
-        goal = bytes(value & self.part.bits[number] for value, number in zip(goal, self.part.settings)) if len(
-            goal) == len(self.part.settings) else goal
-        return super().refusal(start, goal, room)
+        return super().refusal(start, without_unused(self.part, goal), room)
 
 
 @planner_on(34)
@@ -2581,8 +2584,8 @@ class RoomBeforeSettings(Planner):
 @planner
 class WayBeforeRoom(Planner):
     def refusal(self, start, goal, room):
-        number = super().refusal(start, goal, room)
-        return super().refusal(start, goal, 1 << 16) if number == 6 and super().refusal(start, goal, 1 << 16) else number
+        number, with_room = super().refusal(start, goal, room), super().refusal(start, goal, 1 << 16)
+        return with_room if number == 6 and with_room else number
 
 
 @planner_on(34)
