@@ -1,6 +1,6 @@
 /* The library and the peer on the same events in one process, taking turns, best of seven each: single steps, then bursts against the
- * peer's single steps; then the planner.
- * Prints lines `step`, `burst`, `plan`: nanoseconds an event or a plan of the library, of the peer, and their ratio. */
+ * peer's single steps; then the planner, and single steps of the sister, which have no peer.
+ * Prints lines `step`, `burst`, `plan`, `step34`: nanoseconds an event or a plan of the library, of the peer, and their ratio. */
 #include "given.h"
 #include "peer.h"
 
@@ -71,8 +71,8 @@ static void check_steps(void)
     same(ghixramel_power_on(&ours, CHOICE, LEVELS), peer_power_on(&peer, CHOICE, LEVELS), "devices made", 0);
     for (size_t i = 0; i < EVENTS; i++) {
         uint8_t our_answer[2] = {0, 0}, peer_answer[2] = {0, 0};
-        uint32_t refused = ghixramel_step(&ours, events[i].kind, events[i].argument, our_answer);
-        same(refused, peer_step(&peer, events[i].kind, events[i].argument, peer_answer), "refusals", i);
+        uint32_t refused = ghixramel_step(&ours, traffic.events[i].kind, traffic.events[i].argument, our_answer);
+        same(refused, peer_step(&peer, traffic.events[i].kind, traffic.events[i].argument, peer_answer), "refusals", i);
         same(our_answer[0], peer_answer[0], "answers", i);
         same(our_answer[1], peer_answer[1], "bytes read", i);
         same_state(&ours, &peer, i);
@@ -88,7 +88,7 @@ static int64_t time_library(struct ghixramel *device, uint64_t *sum)
     int64_t began = now();
     for (int times = 0; times < TIMES_OVER; times++)
         for (size_t i = 0; i < EVENTS; i++) {
-            *sum += ghixramel_step(device, events[i].kind, events[i].argument, answer);
+            *sum += ghixramel_step(device, traffic.events[i].kind, traffic.events[i].argument, answer);
             *sum += answer[0] + answer[1];
         }
     return now() - began;
@@ -101,7 +101,7 @@ static int64_t time_peer(struct peer *device, uint64_t *sum)
     int64_t began = now();
     for (int times = 0; times < TIMES_OVER; times++)
         for (size_t i = 0; i < EVENTS; i++) {
-            *sum += peer_step(device, events[i].kind, events[i].argument, answer);
+            *sum += peer_step(device, traffic.events[i].kind, traffic.events[i].argument, answer);
             *sum += answer[0] + answer[1];
         }
     return now() - began;
@@ -129,7 +129,7 @@ typedef uint32_t run_burst(void *device, size_t first, size_t count, uint8_t ans
 static uint32_t burst_of_library(void *device, size_t first, size_t count, uint8_t answers[2 * GHIXRAMEL_MOST_EVENTS])
 {
     uint64_t done[1] = {0};
-    uint32_t refused = ghixramel_burst(device, event_bytes + first * GHIXRAMEL_EVENT_BYTES, count * GHIXRAMEL_EVENT_BYTES, count, answers,
+    uint32_t refused = ghixramel_burst(device, traffic.bytes + first * GHIXRAMEL_EVENT_BYTES, count * GHIXRAMEL_EVENT_BYTES, count, answers,
                                        2 * GHIXRAMEL_MOST_EVENTS, done);
     return refused + (uint32_t)(count - done[0]);
 }
@@ -139,7 +139,7 @@ static uint32_t burst_of_peer(void *device, size_t first, size_t count, uint8_t 
 {
     uint32_t refused = 0;
     for (size_t i = 0; i < count && refused == 0; i++)
-        refused = peer_step(device, events[first + i].kind, events[first + i].argument, answers + 2 * i);
+        refused = peer_step(device, traffic.events[first + i].kind, traffic.events[first + i].argument, answers + 2 * i);
     return refused;
 }
 
@@ -242,12 +242,35 @@ static void bench_plans(void)
     printf("plan\t%.2f\t-\t-\n", (double)best / PAIRS);
 }
 
+/* Each refused event is in the sum, and none is to be. */
+static int64_t time_sister(struct ghixramel *device, uint64_t *refused)
+{
+    uint8_t answer[2] = {0, 0};
+    ghixramel34_power_on(device, CHOICE, LEVELS);
+    int64_t began = now();
+    for (int times = 0; times < TIMES_OVER; times++)
+        for (size_t i = 0; i < EVENTS; i++)
+            *refused += ghixramel34_step(device, traffic34.events[i].kind, traffic34.events[i].argument, answer);
+    return now() - began;
+}
+
+static void bench_sister(void)
+{
+    struct ghixramel device = {0};
+    int64_t best = 0;
+    uint64_t refused = 0;
+    for (size_t round = 0; round < ROUNDS; round++)
+        keep_best(&best, time_sister(&device, &refused));
+    same(refused, 0, "refusals of the sister", 0);
+    printf("step34\t%.2f\t-\t-\n", (double)best / ((double)EVENTS * TIMES_OVER));
+}
+
 /* The mix, so that a reader sees what was timed. */
 static void tell_mix(void)
 {
     uint32_t counts[6] = {0};
     for (size_t i = 0; i < EVENTS; i++)
-        counts[events[i].kind]++;
+        counts[traffic.events[i].kind]++;
     dprintf(STANDARD_ERROR, "bench: of %d events %u START, %u STOP, %u bytes, %u fetches, %u levels, %u resets\n", EVENTS, counts[0],
             counts[1], counts[2], counts[3], counts[4], counts[5]);
 }
@@ -263,5 +286,6 @@ int main(void)
     make_pairs();
     check_plans();
     bench_plans();
+    bench_sister();
     return 0;
 }

@@ -1,4 +1,4 @@
-/* The library's calls, each on what it is timed on: every event a step, then all of them in bursts, then every plan.
+/* The library's calls, each on what it is timed on: every event a step, then all of them in bursts, of both parts, then every plan.
  * bench/count counts the instructions of one call at a time; which one it does not say here. */
 #include "given.h"
 
@@ -7,24 +7,23 @@
 /* What a call refuses is counted too, so that none is taken for done. */
 static uint32_t refusals;
 
-static void all_steps(void)
+typedef uint32_t step_call(struct ghixramel *, uint32_t, uint64_t, uint8_t *);
+typedef uint32_t burst_call(struct ghixramel *, const uint8_t *, uint64_t, uint64_t, uint8_t *, uint64_t, uint64_t *);
+
+static void all_steps(struct ghixramel device, const struct traffic *on, step_call *step)
 {
-    struct ghixramel device = {0};
     uint8_t answer[2] = {0};
-    refusals += ghixramel_power_on(&device, CHOICE, LEVELS);
     for (size_t i = 0; i < EVENTS; i++)
-        refusals += ghixramel_step(&device, events[i].kind, events[i].argument, answer);
+        refusals += step(&device, on->events[i].kind, on->events[i].argument, answer);
 }
 
-static void all_bursts(void)
+static void all_bursts(struct ghixramel device, const struct traffic *on, burst_call *burst)
 {
-    struct ghixramel device = {0};
     uint8_t answers[2 * GHIXRAMEL_MOST_EVENTS] = {0};
     uint64_t done[1] = {0};
-    refusals += ghixramel_power_on(&device, CHOICE, LEVELS);
     for (size_t first = 0; first < EVENTS; first += GHIXRAMEL_MOST_EVENTS)
-        refusals += ghixramel_burst(&device, event_bytes + first * GHIXRAMEL_EVENT_BYTES, burst_at(first) * GHIXRAMEL_EVENT_BYTES,
-                                    burst_at(first), answers, sizeof answers, done);
+        refusals += burst(&device, on->bytes + first * GHIXRAMEL_EVENT_BYTES, burst_at(first) * GHIXRAMEL_EVENT_BYTES, burst_at(first),
+                          answers, sizeof answers, done);
 }
 
 /* A pair without a quiet way is a plan too. */
@@ -40,8 +39,12 @@ int main(void)
 {
     make_events();
     make_pairs();
-    all_steps();
-    all_bursts();
+    struct ghixramel device = {0}, sister = {0};
+    refusals += ghixramel_power_on(&device, CHOICE, LEVELS) + ghixramel34_power_on(&sister, CHOICE, LEVELS);
+    all_steps(device, &traffic, ghixramel_step);
+    all_steps(sister, &traffic34, ghixramel34_step);
+    all_bursts(device, &traffic, ghixramel_burst);
+    all_bursts(sister, &traffic34, ghixramel34_burst);
     all_plans();
     printf("%d\t%d\n", EVENTS, PAIRS);
     return refusals == 0 ? 0 : 1;

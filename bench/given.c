@@ -4,18 +4,24 @@
 
 #include <libc.h>
 
-struct event events[EVENTS];
-uint8_t event_bytes[EVENTS * GHIXRAMEL_EVENT_BYTES];
+struct traffic traffic, traffic34;
 struct pair pairs[PAIRS];
+
+static void make_traffic(struct traffic *made, const struct mix_part *part)
+{
+    struct mix mix;
+    mix_begin(&mix, part, SEED, CHOICE, LEVELS);
+    for (size_t i = 0; i < EVENTS; i++) {
+        struct event event = mix_next(&mix);
+        made->events[i] = event;
+        put_event(made->bytes + i * GHIXRAMEL_EVENT_BYTES, event.kind, (uint32_t)event.argument, (uint32_t)(event.argument >> 32));
+    }
+}
 
 void make_events(void)
 {
-    struct mix mix;
-    mix_begin(&mix, &mix24, SEED, CHOICE, LEVELS);
-    for (size_t i = 0; i < EVENTS; i++) {
-        events[i] = mix_next(&mix);
-        put_event(event_bytes + i * GHIXRAMEL_EVENT_BYTES, events[i].kind, (uint32_t)events[i].argument, (uint32_t)(events[i].argument >> 32));
-    }
+    make_traffic(&traffic, &mix24);
+    make_traffic(&traffic34, &mix34);
 }
 
 size_t burst_at(size_t first)

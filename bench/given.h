@@ -8,8 +8,14 @@
 
 enum { EVENTS = 100000, PAIRS = 10000, SEED = 1, CHOICE = 2, LEVELS = 0x00F0F0 };
 
-extern struct event events[EVENTS];
-extern uint8_t event_bytes[EVENTS * GHIXRAMEL_EVENT_BYTES]; /* the same as a burst has them */
+/* Events, and the same as a burst has them. */
+struct traffic {
+    struct event events[EVENTS];
+    uint8_t bytes[EVENTS * GHIXRAMEL_EVENT_BYTES];
+};
+
+/* Of the 24-pin part, and of its sister. */
+extern struct traffic traffic, traffic34;
 
 void make_events(void);
 void make_pairs(void);

@@ -16,23 +16,32 @@ objects() { # NAMES..
     for name; do echo "$out/$name.o"; done
 }
 
+# programs over one part: linked with the part that comes first
+build_lines() { # PART PEER_OPTIONS..
+    local part=$1 watched="checks guarded stack parts$1"
+    shift
+    compile_c "$out/peer_probe$part.o" c/peer_probe.c "$@" && compile_c "$out/peer_trace$part.o" c/peer_trace.c "$@" || return 1
+    # shellcheck disable=SC2046,SC2086
+    link_c "$out/probe$part" $(objects peer_probe$part as_peer $watched) "$library" &&
+        link_c "$out/trace$part" $(objects peer_trace$part as_peer $watched) "$library" &&
+        link_c "$out/plan$part" $(objects plan_lines $watched) "$library" &&
+        link_c "$out/views$part" $(objects view_lines $watched) "$library" &&
+        link_c "$out/burst$part" $(objects burst_lines $watched) "$library"
+}
+
 build() {
-    local name watched="checks guarded stack parts"
-    local host="host $watched images words master refused points refusals broken carried shows plans bursts"
+    local name host="host checks guarded stack parts images words master refused points refusals broken carried shows plans bursts"
     mkdir -p "$out" || return 1
     for name in $host as_peer plan_lines view_lines burst_lines; do
         compile_c "$out/$name.o" "tests/c/$name.c" || return 1
     done
-    for name in mix peer peer_probe peer_trace; do
+    for name in mix peer; do
         compile_c "$out/$name.o" "c/$name.c" || return 1
     done
+    compile_c "$out/parts34.o" tests/c/parts.c -DFIRST_PART=1 || return 1
     # shellcheck disable=SC2046,SC2086
     link_c "$out/host" $(objects $host mix peer) "$library" &&
-        link_c "$out/probe" $(objects peer_probe as_peer $watched) "$library" &&
-        link_c "$out/trace" $(objects peer_trace as_peer $watched) "$library" &&
-        link_c "$out/plan" $(objects plan_lines $watched) "$library" &&
-        link_c "$out/views" $(objects view_lines $watched) "$library" &&
-        link_c "$out/burst" $(objects burst_lines $watched) "$library"
+        build_lines "" && build_lines 34 -DPEER_DIGITS=9 '-DPEER_DEVICE="device34"'
 }
 
 # a layout other than the one that the header asserts, or a name that C++ has changed, stops here
@@ -44,6 +53,14 @@ try_header() { # NAME OPTIONS..
 
 judge() { # WHAT PROGRAM COUNT
     python3 tests/model/compare.py "$1" "${launch[@]}" "$out/$2" --seed "${SEED:-1}" --count "$3" || bad=1
+}
+
+judge_part() { # PART PINS
+    judge "probe$2" "probe$1" "${IMAGES:-5000}"
+    judge "trace$2" "trace$1" "${LOGS:-300}"
+    judge "plan$2" "plan$1" "${PLANS:-500}"
+    judge "views$2" "views$1" "${VIEWS:-3000}"
+    judge "burst$2" "burst$1" "${BURSTS:-2000}"
 }
 
 need_library || exit 1
@@ -59,9 +76,6 @@ try_header c++11 -x c++ -std=c++11 || fail "the header as C++11"
 compile_c "$out/header_32.o" tests/c/header.c -m32 || fail "the header for 32 bits"
 
 "${launch[@]}" "$out/host" || bad=1
-judge probe probe "${IMAGES:-5000}"
-judge trace24 trace "${LOGS:-300}"
-judge plan plan "${PLANS:-500}"
-judge views views "${VIEWS:-3000}"
-judge burst burst "${BURSTS:-2000}"
+judge_part "" 24
+judge_part 34 34
 exit $bad

@@ -1,5 +1,5 @@
 #!/usr/bin/env bash
-# The program probe: seeded images against the independent model (SEED and IMAGES on request: IMAGES=200000 SEED=7 tests/probe.sh).
+# The programs probe and probe34: seeded images against the independent model (SEED and IMAGES on request: IMAGES=200000 SEED=7 tests/probe.sh).
 set -u
 cd "$(dirname "${BASH_SOURCE[0]}")/.." || exit 2
 bad=0
@@ -8,33 +8,55 @@ fail() {
     bad=1
 }
 
-[ -z "$(./ghixramel probe </dev/null)" ] || fail "an empty input gives an answer"
+for program in probe probe34; do
+    [ -z "$(./ghixramel $program </dev/null)" ] || fail "$program: an empty input gives an answer"
+done
+
+zeros() { # COUNT
+    printf "%0$1d" 0
+}
 
 # a host that talks through a pipe has each answer before it sends the next line: the image after is the next one's image
-registers=00000000ffffff0000000000ffffff$(printf '%098d' 0)ffffffffffff$(printf '%020d' 0)ffffff00ffffff$(printf '%082d' 0)
-coproc ./ghixramel probe
-program=$COPROC_PID
-image="$registers$(printf '\t%016d' 0 0 0 0)"$'\t00\t00\t02\t0000000000000000\t01'
 ask() { # KIND ARGUMENT, then the answer must come
     printf '%s\t%s\t%s\n' "$image" "$1" "$2" >&"${COPROC[1]}"
     IFS= read -r -t 20 told <&"${COPROC[0]}" || fail "no answer to event $1 $2"
     image=$(cut -f 5- <<<"$told")
 }
-ask 00000000 0000000000000000
-ask 00000002 0000000000000044
-ask 00000002 0000000000000054
-ask 00000002 00000000000000fe
-ask 00000004 0000000000000001
-[ "$(cut -f 1-4,13- <<<"$told")" = $'-\t0\t000000\t000000\t0000000000000001\t00' ] || fail "pin 0's rise got '$told'"
-eval "exec ${COPROC[1]}>&-"
-wait "$program" 2>/dev/null
 
-# there is one form: an image without status and line is none
-[ "$(printf '%s\t00000000\t0000000000000000\n' "$(cut -f 1-8 <<<"$image")" | ./ghixramel probe)" = $'refused\t7' ] ||
-    fail "an image without status and line is readable"
+# a power-on image, the mask of a port that is unmasked over the bus, a pin of it that rises, and what is told then
+talk() { # PROGRAM REGISTERS MASK VALUE LEVELS WANTED
+    local program=$1
+    coproc ./ghixramel "$program"
+    local running=$COPROC_PID
+    image="$2$(printf '\t%016d' 0 0 0 0)"$'\t00\t00\t02\t0000000000000000\t01'
+    ask 00000000 0000000000000000
+    ask 00000002 0000000000000044
+    ask 00000002 00000000000000"$3"
+    ask 00000002 00000000000000"$4"
+    ask 00000004 "$5"
+    [ "$(cut -f 1-4,13- <<<"$told")" = "$6" ] || fail "$program: a pin's rise got '$told'"
+    eval "exec ${COPROC[1]}>&-"
+    wait "$running" 2>/dev/null
+    # there is one form: an image without status and line is none
+    [ "$(printf '%s\t00000000\t0000000000000000\n' "$(cut -f 1-8 <<<"$image")" | ./ghixramel "$program")" = $'refused\t7' ] ||
+        fail "$program: an image without status and line is readable"
+}
 
-# a line of ten million bytes is one refusal
-[ "$(head -c 10000000 /dev/zero | tr '\0' '0' | ./ghixramel probe)" = $'refused\t7' ] || fail "a long line is not one refusal"
+registers24=$(zeros 8)ffffff$(zeros 10)ffffff$(zeros 98)ffffffffffff$(zeros 20)ffffff00ffffff$(zeros 82)
+registers34=$(zeros 10)ffffffff03$(zeros 10)ffffffff03$(zeros 56)ffffffffffffffff0f$(zeros 22)ffffffff03ffffffff03$(zeros 100)
+talk probe "$registers24" 54 fe 0000000000000001 $'-\t0\t000000\t000000\t0000000000000001\t00'
+talk probe34 "$registers34" 4d fd 0000000200000000 $'-\t0\t000000000\t000000000\t0000000200000000\t00'
 
-python3 tests/model/compare.py probe ./ghixramel probe --seed "${SEED:-1}" --count "${IMAGES:-20000}" || bad=1
+# one part's image is broken for the other
+one() { # PROGRAM REGISTERS
+    printf '%s\t00\t00\t02\t0000000000000000\t01\t00000000\t0000000000000000\n' "$2$(printf '\t%016d' 0 0 0 0)" | ./ghixramel "$1"
+}
+[ "$(one probe "$registers34")" = $'refused\t3' ] || fail "probe takes the sister's image"
+[ "$(one probe34 "$registers24")" = $'refused\t3' ] || fail "probe34 takes the 24-pin part's image"
+
+for program in probe probe34; do
+    # a line of ten million bytes is one refusal
+    [ "$(head -c 10000000 /dev/zero | tr '\0' '0' | ./ghixramel $program)" = $'refused\t7' ] || fail "$program: a long line is not one refusal"
+    python3 tests/model/compare.py $program ./ghixramel $program --seed "${SEED:-1}" --count "${IMAGES:-20000}" || bad=1
+done
 exit $bad

@@ -26,6 +26,19 @@ ask $'device\t2\t000000'
 ask 'start'
 ask $'byte\t44'
 [ "$told" = $'ack\t1\t000000\t000000' ] || fail "the address byte got '$told'"
+# the sister has nine digits, and a later device line goes back to six
+ask $'device34\t2\t000000000'
+[ "$told" = $'-\t1\t000000000\t000000000' ] || fail "the sister got '$told'"
+ask $'pins\t3ffffffff'
+[ "$told" = $'-\t1\t000000000\t000000000' ] || fail "the sister's levels got '$told'"
+for line in $'pins\t400000000' $'pins\t000001' $'device34\t2\t000000' $'device34\t2\t400000000' $'device\t2\t000000000'; do
+    ask "$line"
+    [ "$told" = $'refused\t7' ] || fail "'$line' got '$told'"
+done
+ask $'device\t1\t000000'
+[ "$told" = $'-\t1\t000000\t000000' ] || fail "a device after the sister got '$told'"
+ask $'pins\t000000001'
+[ "$told" = $'refused\t7' ] || fail "nine digits for 24 pins got '$told'"
 eval "exec ${COPROC[1]}>&-"
 wait "$program" 2>/dev/null
 
@@ -33,5 +46,5 @@ wait "$program" 2>/dev/null
 lines=$(head -c 10000000 /dev/zero | tr '\0' 'x' | ./ghixramel trace | wc -l)
 [ "$lines" -eq 2 ] || fail "a long line gave $lines lines, wanted the header and one refusal"
 
-python3 tests/model/compare.py trace24 ./ghixramel trace --seed "${SEED:-1}" --count "${LOGS:-1000}" || bad=1
+python3 tests/model/compare.py trace ./ghixramel trace --seed "${SEED:-1}" --count "${LOGS:-1000}" || bad=1
 exit $bad

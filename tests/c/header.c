@@ -4,7 +4,10 @@
 /* By their types, so that a length of 32 bits on a processor of 32 bits stops the compiler. */
 static uint32_t (*const plan)(const uint8_t *, uint64_t, const uint8_t *, uint64_t, uint8_t *, uint64_t, uint64_t *) = ghixramel_plan;
 static uint32_t (*const burst)(struct ghixramel *, const uint8_t *, uint64_t, uint64_t, uint8_t *, uint64_t, uint64_t *) = ghixramel_burst;
-static uint32_t (*const burst34)(struct ghixramel *, const uint8_t *, uint64_t, uint64_t, uint8_t *, uint64_t, uint64_t *) = ghixramel34_burst;
+
+static uint32_t (*const plan34)(const uint8_t *, uint64_t, const uint8_t *, uint64_t, uint8_t *, uint64_t, uint64_t *) = ghixramel34_plan;
+static uint32_t (*const burst34)(struct ghixramel *, const uint8_t *, uint64_t, uint64_t, uint8_t *, uint64_t, uint64_t *) =
+    ghixramel34_burst;
 
 static int views(const struct ghixramel *device)
 {
@@ -41,28 +44,39 @@ static int carried(struct ghixramel *device)
     return ghixramel_from_image(device, &image) == GHIXRAMEL_BAD_IMAGE;
 }
 
-/* The sister's calls link too, and its states are no others'. */
-static int sister(struct ghixramel *device)
-{
-    struct ghixramel_image image = {{0}, {0}, 0, 0, 0, 0, 0};
-    uint64_t drives[2] = {0}, done[1] = {1};
-    uint8_t two[2] = {0}, event[GHIXRAMEL_EVENT_BYTES] = {0};
-    if (ghixramel34_power_on(device, 0, 0x3FFFFFFFF) != GHIXRAMEL_DONE || ghixramel_int(device, two) != GHIXRAMEL_BAD_IMAGE)
-        return 0;
-    if (ghixramel34_step(device, GHIXRAMEL_START, 0, two) != GHIXRAMEL_DONE || ghixramel34_int(device, two) != GHIXRAMEL_DONE)
-        return 0;
-    if (ghixramel34_drives(device, drives) != GHIXRAMEL_DONE || ghixramel34_show(device, 0x6F, two) != GHIXRAMEL_DONE)
-        return 0;
-    if (burst34(device, event, sizeof event, 1, two, sizeof two, done) != GHIXRAMEL_DONE || two[0] != GHIXRAMEL_NOTHING)
-        return 0;
-    return ghixramel34_to_image(device, &image) == GHIXRAMEL_DONE && ghixramel34_from_image(device, &image) == GHIXRAMEL_DONE;
-}
-
 static int planned(void)
 {
     uint8_t start[GHIXRAMEL_SETTING_BYTES] = {0}, goal[GHIXRAMEL_SETTING_BYTES] = {0}, buffer[GHIXRAMEL_PLAN_BYTES] = {0};
     uint64_t writes[1] = {1};
     return plan(start, sizeof start, goal, sizeof goal, buffer, sizeof buffer, writes) == GHIXRAMEL_DONE && writes[0] == 0;
+}
+
+/* The sister's calls on the same structs: 33 is its last pin; each part's calls refuse the other's state. */
+static int sister(void)
+{
+    struct ghixramel device = {{0}};
+    struct ghixramel_image image = {{0}, {0}, 0, 0, 0, 0, 0};
+    uint8_t answer[2] = {0}, asserted[1] = {0}, shown[1] = {0}, answers[2] = {0};
+    uint8_t levels[GHIXRAMEL_EVENT_BYTES] = {GHIXRAMEL_LEVELS, 0, 0, 0, 0, 0, 0, 0, 2, 0, 0, 0};
+    uint8_t ends[16] = {0}, buffer[52] = {0};
+    uint64_t done[1] = {0}, drives[2] = {0}, writes[1] = {1};
+    if (ghixramel34_power_on(&device, 3, (uint64_t)1 << 34) != GHIXRAMEL_BAD_ARGUMENT || ghixramel34_power_on(&device, 3, 0) != GHIXRAMEL_DONE)
+        return 0;
+    if (burst34(&device, levels, sizeof levels, 1, answers, sizeof answers, done) != GHIXRAMEL_DONE || done[0] != 1)
+        return 0;
+    if (ghixramel34_to_image(&device, &image) != GHIXRAMEL_DONE || image.pins[0] != (uint64_t)2 << 32 || image.registers[0x4D] != 0x03)
+        return 0;
+    if (ghixramel34_drives(&device, drives) != GHIXRAMEL_DONE || ghixramel34_int(&device, asserted) != GHIXRAMEL_DONE || asserted[0] != 0)
+        return 0;
+    if (ghixramel34_show(&device, 0x04, shown) != GHIXRAMEL_DONE || shown[0] != 2 || ghixramel34_show(&device, 0x39, shown) != GHIXRAMEL_BAD_ARGUMENT)
+        return 0;
+    if (ghixramel_step(&device, GHIXRAMEL_START, 0, answer) != GHIXRAMEL_BAD_IMAGE)
+        return 0;
+    if (ghixramel34_step(&device, GHIXRAMEL_START, 0, answer) != GHIXRAMEL_DONE || ghixramel34_from_image(&device, &image) != GHIXRAMEL_DONE)
+        return 0;
+    if (plan34(ends, sizeof ends, ends, sizeof ends, buffer, sizeof buffer - 1, writes) != GHIXRAMEL_BUFFER_SMALL)
+        return 0;
+    return plan34(ends, sizeof ends, ends, sizeof ends, buffer, sizeof buffer, writes) == GHIXRAMEL_DONE && writes[0] == 0;
 }
 
 int main(void)
@@ -73,5 +87,5 @@ int main(void)
         return 1;
     if (ghixramel_step(&device, GHIXRAMEL_START, 0, answer) != GHIXRAMEL_DONE || answer[0] != GHIXRAMEL_NOTHING)
         return 1;
-    return !(views(&device) && done_in_a_burst(&device) && carried(&device) && planned() && sister(&device));
+    return !(views(&device) && done_in_a_burst(&device) && carried(&device) && planned() && sister());
 }

@@ -25,6 +25,25 @@ static const struct group groups24[] = {
     {0x76, 0x76, 0x00, 0xFF, 1}, /* debounce count */
 };
 
+static const struct group groups34[] = {
+    {0x00, 0x04, 0x00, 0x03, 0}, /* input port */
+    {0x05, 0x09, 0xFF, 0x03, 1}, /* output */
+    {0x0A, 0x0E, 0x00, 0x03, 1}, /* polarity */
+    {0x0F, 0x13, 0xFF, 0x03, 1}, /* configuration */
+    {0x30, 0x38, 0xFF, 0x0F, 1}, /* drive strength */
+    {0x3A, 0x3E, 0x00, 0x03, 1}, /* input latch */
+    {0x3F, 0x43, 0x00, 0x03, 1}, /* pull enable */
+    {0x44, 0x48, 0xFF, 0x03, 1}, /* pull select */
+    {0x49, 0x4D, 0xFF, 0x03, 1}, /* interrupt mask */
+    {0x4E, 0x52, 0x00, 0x03, 0}, /* interrupt status */
+    {0x53, 0x53, 0x00, 0x1F, 1}, /* output port kind */
+    {0x54, 0x5C, 0x00, 0x0F, 1}, /* interrupt edge */
+    {0x5E, 0x62, 0x00, 0x03, 0}, /* interrupt clear */
+    {0x63, 0x67, 0x00, 0x03, 0}, /* input status */
+    {0x68, 0x6C, 0x00, 0x03, 1}, /* pin output kind */
+    {0x6D, 0x6F, 0x00, 0xFF, 1}, /* debounce */
+};
+
 #define COUNT(table) (sizeof(table) / sizeof *(table))
 
 #define CALLS(prefix)                                                                                                                \
@@ -40,6 +59,13 @@ const struct part parts[] = {
         .pull_select = 0x50, .mask = 0x54, .port_kind = 0x5C, .edge = 0x60, .clear = 0x68, .pin_kind = 0x70,
         .debounce = 0x74, .debounce_bytes = 2, .debounce_count = 0x76, .reserved = 0x03,
         .setting_bytes = 10, .most_writes = 16, .largest_rest = 0, .calls = CALLS(ghixramel),
+    },
+    {
+        .number = 1, .pins = 34, .ports = 5, .digits = 9, .groups = groups34, .group_count = COUNT(groups34),
+        .output = 0x05, .polarity = 0x0A, .configuration = 0x0F, .strength = 0x30, .latch = 0x3A, .pull_enable = 0x3F,
+        .pull_select = 0x44, .mask = 0x49, .port_kind = 0x53, .edge = 0x54, .clear = 0x5E, .pin_kind = 0x68,
+        .debounce = 0x6D, .debounce_bytes = 3, .debounce_count = 0, .reserved = 0x39,
+        .setting_bytes = 16, .most_writes = 26, .largest_rest = 3, .calls = CALLS(ghixramel34),
     },
 };
 
