@@ -58,8 +58,10 @@ static int sister(void)
     struct ghixramel_image image = {{0}, {0}, 0, 0, 0, 0, 0};
     uint8_t answer[2] = {0}, asserted[1] = {0}, shown[1] = {0}, answers[2] = {0};
     uint8_t levels[GHIXRAMEL_EVENT_BYTES] = {GHIXRAMEL_LEVELS, 0, 0, 0, 0, 0, 0, 0, 2, 0, 0, 0};
-    uint8_t ends[16] = {0}, buffer[52] = {0};
+    uint8_t ends[GHIXRAMEL34_SETTING_BYTES] = {0}, buffer[GHIXRAMEL34_PLAN_BYTES] = {0};
     uint64_t done[1] = {0}, drives[2] = {0}, writes[1] = {1};
+    if (sizeof ends != 16 || GHIXRAMEL34_MOST_WRITES != 26 || sizeof buffer != 52)
+        return 0;
     if (ghixramel34_power_on(&device, 3, (uint64_t)1 << 34) != GHIXRAMEL_BAD_ARGUMENT || ghixramel34_power_on(&device, 3, 0) != GHIXRAMEL_DONE)
         return 0;
     if (burst34(&device, levels, sizeof levels, 1, answers, sizeof answers, done) != GHIXRAMEL_DONE || done[0] != 1)
