@@ -1,5 +1,7 @@
 #include "checks.h"
 
+#include "parts.h"
+
 #include <libc.h>
 
 static const char *present_topic = "";
@@ -19,8 +21,8 @@ void want(const char *what, uint64_t wanted, uint64_t got)
         return;
     failed++;
     /* At once, in case a call that spoils memory ends the program. */
-    dprintf(STANDARD_OUTPUT, "host: %s (%lx): %s: wanted %lx, got %lx\n", present_topic, (unsigned long)present_detail, what,
-            (unsigned long)wanted, (unsigned long)got);
+    dprintf(STANDARD_OUTPUT, "host: %u pins, %s (%lx): %s: wanted %lx, got %lx\n", part->pins, present_topic, (unsigned long)present_detail,
+            what, (unsigned long)wanted, (unsigned long)got);
 }
 
 int verdict(void)

@@ -1,8 +1,9 @@
-/* The library's calls for the part that the checks are about (parts.h), each watched: made in memory with guard bytes around every array and on a stack of its own, and
- * once more from the same beginning, with the state elsewhere in memory and the image as the struct where it was arrays.
- * Checked each time: a refused call changed no byte, another only its results, and a burst that ended early only those of
- * the events that it counts; both calls gave the same, so nothing was kept in between and the place did not matter. An
- * image that was taken comes out as the same bytes; one that was given makes the same state again, byte for byte. */
+/* The library's calls for the part that the checks are about (parts.h), each watched: made in memory with guard bytes around
+ * every array and on a stack of its own, and once more from the same beginning, with the state elsewhere in memory and the
+ * image as the struct where it was arrays. Checked each time: a refused call changed no byte, another only its results, and
+ * a burst that ended early only those of the events that it counts; both calls gave the same, so nothing was kept in between
+ * and the place did not matter. An image that was taken comes out as the same bytes; one that was given makes the same state
+ * again, byte for byte. */
 #ifndef GUARDED_H
 #define GUARDED_H
 

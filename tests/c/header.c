@@ -62,7 +62,9 @@ static int sister(void)
     uint64_t done[1] = {0}, drives[2] = {0}, writes[1] = {1};
     if (sizeof ends != 16 || GHIXRAMEL34_MOST_WRITES != 26 || sizeof buffer != 52)
         return 0;
-    if (ghixramel34_power_on(&device, 3, (uint64_t)1 << 34) != GHIXRAMEL_BAD_ARGUMENT || ghixramel34_power_on(&device, 3, 0) != GHIXRAMEL_DONE)
+    if (ghixramel34_power_on(&device, 3, (uint64_t)1 << 34) != GHIXRAMEL_BAD_ARGUMENT)
+        return 0;
+    if (ghixramel34_power_on(&device, 3, 0) != GHIXRAMEL_DONE)
         return 0;
     if (burst34(&device, levels, sizeof levels, 1, answers, sizeof answers, done) != GHIXRAMEL_DONE || done[0] != 1)
         return 0;
@@ -70,7 +72,9 @@ static int sister(void)
         return 0;
     if (ghixramel34_drives(&device, drives) != GHIXRAMEL_DONE || ghixramel34_int(&device, asserted) != GHIXRAMEL_DONE || asserted[0] != 0)
         return 0;
-    if (ghixramel34_show(&device, 0x04, shown) != GHIXRAMEL_DONE || shown[0] != 2 || ghixramel34_show(&device, 0x39, shown) != GHIXRAMEL_BAD_ARGUMENT)
+    if (ghixramel34_show(&device, 0x04, shown) != GHIXRAMEL_DONE || shown[0] != 2)
+        return 0;
+    if (ghixramel34_show(&device, 0x39, shown) != GHIXRAMEL_BAD_ARGUMENT)
         return 0;
     if (ghixramel_step(&device, GHIXRAMEL_START, 0, answer) != GHIXRAMEL_BAD_IMAGE)
         return 0;

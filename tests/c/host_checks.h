@@ -10,6 +10,5 @@ void check_carried(void);
 void check_shows(void);
 void check_plans(void);
 void check_bursts(void);
-void check_sister(void);
 
 #endif
