@@ -7,10 +7,10 @@ fn write_header() {
     io::write_all(STDOUT_FILENO, &out[0..end]);
 }
 
-// The answers' room is 26 bytes for each byte of a piece: no line is longer.
+// The answers' room is ten bytes for each byte of a piece and of a line that has begun, and 26 more.
 fn main() {
     let mut piece = [0u8; 16384];
-    let mut out = [0u8; 425_984];
+    let mut out = [0u8; 164_196];
     let mut rows = [0u32; 128];
     let mut next = [0u8; 128];
     let mut words = trace_logs::start();

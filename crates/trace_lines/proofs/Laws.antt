@@ -8,7 +8,7 @@ use lib.Dec.{eqb, ltb}
 use lib.ListN.{length, take, drop, length-drop}
 use lib.Pow.{pow-pos}
 use lib.Seq.{take-all}
-use borrow.Author.Tests.{lt-ltb, le-ltb}
+use borrow.Author.Tests.{ne-eqb, lt-ltb, le-ltb}
 use Rattle.bits.proofs.Decide.{and-right, either-arm}
 use Rattle.map.specs.Map.{Part, partOf}
 use Rattle.text.specs.declared.Digits.{Digits}
@@ -150,7 +150,27 @@ module _ (p : Part) (s : List ℕ) (not-byte : startsWith byte s ≡ false) wher
     unfolding fieldsOf
     fields-device h = rw (not-byte, not-fetch, h)
 
+not-word : (word s : List ℕ) → length s < length word → isWord word s ≡ false
+unfolding isWord
+not-word word s h = rw (ne-eqb (length s) (length word) (λ e. omega (arith, e)))
+
 module _ (p : Part) (s : List ℕ) where
+  -- no line of one byte or none says anything
+  pub line-tiny : length s < 2 → lineOf p s ≡ Unreadable
+  unfolding lineOf fieldsOf devicesOf
+  line-tiny h =
+      rw (
+        le-ltb 32 (length s) (omega arith),
+        not-word start s (omega arith),
+        not-word stop s (omega arith),
+        not-word reset s (omega arith),
+        starts-short byte s (omega arith),
+        starts-short fetch s (omega arith),
+        starts-short pins s (omega arith),
+        starts-short device s (omega arith),
+        starts-short device34 s (omega arith),
+      )
+
   pub line-long : 32 < length s → Unreadable ≡ lineOf p s
   unfolding lineOf
   line-long long = rw (lt-ltb 32 (length s) long)

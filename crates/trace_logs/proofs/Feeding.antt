@@ -6,7 +6,7 @@ use Prim.Native.Nat.{ℕ, _+_, _-_, _*_, _<_, _≤_}
 use native.Mathlib.Omega.{arith}
 use borrow.Author.Tests.{lt-ltb, le-ltb, ltb-true}
 use lib.Dec.{ltb}
-use lib.ListN.{length, getD, take, drop, length-take, length-drop}
+use lib.ListN.{length, getD, take, drop, length-take, length-drop, length-append}
 use Rattle.map.specs.Map.{Part}
 use Rattle.text.specs.Text.{Wrote}
 use Rattle.text.proofs.Laws.{wrote-as, wrote-both, wrote-nothing, wrote-length}
@@ -15,7 +15,7 @@ use Rattle.trace_lines.specs.Lines.{lineOf}
 use Rattle.trace_lines.proofs.Laws.{rest as tail}
 use Rattle.words_bus.specs.Packed.{partWord}
 use Rattle.trace_session.specs.Tracing.{Session, partIn, traced, answerTo, sessionOf, Kept, Says}
-use Rattle.trace_session.proofs.Laws.{says-as, traced-short}
+use Rattle.trace_session.proofs.Laws.{says-as, traced-short, answer-short}
 use Rattle.trace_logs.specs.Pieces.{Reading, Given, readingOf, grown, answerOf, ended, andThen, given, firstGiven, heldAfter, Gives, Ends}
 use Rattle.trace_logs.proofs.Laws.{given-first, overlaid-nothing, line-take, end-none, end-line}
 
@@ -91,16 +91,24 @@ module _ (words held : List ℕ) (len : ℕ) where
       }
 
 -- ---- the loop over a piece's lines
-first-short : (r : Reading) (piece : List ℕ) → length (firstGiven r piece .text) ≤ 26
-unfolding firstGiven
-first-short r piece = go (ltb (newlineAt piece) (length piece))
+-- the answers of a first line take ten bytes for each byte that it takes, of the piece or of those held, at most
+first-room : (r : Reading) (piece : List ℕ) → length (firstGiven r piece .text) + 10 * length (firstGiven r piece .after .begun) ≤ 10 * (length (r .begun) + takenOf piece)
+unfolding firstGiven takenOf
+first-room r piece = go (ltb (newlineAt piece) (length piece))
   where
-    line : Reading
-    line = grown r (take (newlineAt piece) piece)
+    part : List ℕ
+    part = take (newlineAt piece) piece
 
-    go : (t : Bool) → length (cond t (ended line) (record { text = []; after = grown r piece }) .text) ≤ 26
-    go true = traced-short (line .session) (lineOf (partIn (line .session)) (line .begun))
-    go false = omega arith
+    line : Reading
+    line = grown r part
+
+    first : Bool → Given
+    first t = cond t (ended line) (record { text = []; after = grown r piece })
+
+    go : (t : Bool) → length (first t .text) + 10 * length (first t .after .begun) ≤ 10 * (length (r .begun) + cond t (newlineAt piece + 1) (length piece))
+    go true =
+        omega (arith, answer-short (line .session) (line .begun), length-take 33 (r .begun ++ part), length-append (r .begun) part, length-take (newlineAt piece) piece)
+    go false = omega (arith, length-take 33 (r .begun ++ piece), length-append (r .begun) piece)
 
 pub taken-some : (piece : List ℕ) → 0 < length piece → (0 < takenOf piece) × (takenOf piece ≤ length piece)
 unfolding takenOf
@@ -125,7 +133,7 @@ pub record Onward (words₀ held₀ : List ℕ) (len₀ : ℕ) (piece out₀ : L
   pub kept : Kept words
   pub untouched : ltb (getD words partWord 0) 2 ≡ false → words ≡ words₀
   pub long : length out ≡ length out₀
-  pub room : end + 26 * length rest ≤ length out
+  pub room : end + 10 * (length (take len held) + length rest) + 26 ≤ length out
   pub writes : {last : ℕ} {left : List ℕ} → Wrote out end (given (readingOf words held len) rest .text) last left → Wrote out₀ at (given (readingOf words₀ held₀ len₀) piece .text) last left
   pub goes-to : given (readingOf words held len) rest .after ≡ given (readingOf words₀ held₀ len₀) piece .after
   pub holds : heldAfter held len [] rest ≡ heldAfter held₀ len₀ [] piece
@@ -134,9 +142,9 @@ begun-small : (words held : List ℕ) (len : ℕ) → len ≤ 33 → length (rea
 begun-small words held len h = omega (arith, length-take len held)
 
 module _ {piece out₀ : List ℕ} {at : ℕ} where
-  pub onward-start : (words held : List ℕ) (len : ℕ) → len ≤ 33 → length held ≡ 33 → Kept words → at + 26 * length piece ≤ length out₀
+  pub onward-start : (words held : List ℕ) (len : ℕ) → len ≤ 33 → length held ≡ 33 → Kept words → at + 10 * (len + length piece) + 26 ≤ length out₀
       → Onward words held len piece out₀ at out₀ piece words held len at
-  onward-start words held len h whole kept room = record { small = h; whole = whole; kept = kept; untouched = λ h. refl; long = refl; room = room; writes = λ w. w; goes-to = refl; holds = refl }
+  onward-start words held len h whole kept room = record { small = h; whole = whole; kept = kept; untouched = λ h. refl; long = refl; room = omega (arith, room, length-take len held); writes = λ w. w; goes-to = refl; holds = refl }
 
   module _ {words₀ held₀ out rest words held : List ℕ} {len₀ len end : ℕ} (here : Onward words₀ held₀ len₀ piece out₀ at out rest words held len end) where
     pub onward-line : 0 < length rest → {out′ words′ held′ : List ℕ} {len′ end′ taken : ℕ} → Gives (firstGiven (readingOf words held len) rest) words out end end′ out′ words′ held′ len′ → taken ≡ takenOf rest
@@ -156,7 +164,7 @@ module _ {piece out₀ : List ℕ} {at : ℕ} where
           kept = g .kept;
           untouched = λ none. (g .untouched none ∙ here .untouched (ap (λ (w : List ℕ). ltb (getD w partWord 0) 2) (sym (g .untouched none)) ∙ none));
           long = wrote-length (g .wrote) ∙ here .long;
-          room = omega (arith, ap length e, length-drop (takenOf rest) rest, taken-some rest some, first-short x rest, g .wrote .ends, wrote-length (g .wrote), here .room);
+          room = omega (arith, ap length e, length-drop (takenOf rest) rest, taken-some rest some, first-room x rest, ap (λ (y : Reading). length (y .begun)) (g .goes-on), g .wrote .ends, wrote-length (g .wrote), here .room);
           writes = λ w. here .writes (wrote-as (sym (ap (λ (y : Given). y .text) all)) (wrote-both (g .wrote) w));
           goes-to = sym (ap (λ (y : Given). y .after) all) ∙ here .goes-to;
           holds = ap (heldAfter held′ len′ []) (tail taken rest) ∙ h ∙ here .holds;

@@ -139,7 +139,7 @@ pub fn feed(
     out: &mut [u8],
     at: usize,
 ) -> Fed
-    requires { ⌜ Kept (now words) × (len ≤ 33) × (length (now held) ≡ 33) × (at + 26 * length (now piece) ≤ length (now out))
+    requires { ⌜ Kept (now words) × (len ≤ 33) × (length (now held) ≡ 33) × (at + 10 * (len + length (now piece)) + 26 ≤ length (now out))
         × Beside (now words) (now rows) (now next) (now told) (now kept) ⌝ }
     ensures { λ f. ⌜ Gives (given (readingOf (now (words .entry)) (now (held .entry)) len) (now (piece .entry))) (now (words .entry)) (now (out .entry)) at (f .end) (now (out .exit)) (now (words .exit)) (now (held .exit)) (f .len)
         × (f .end ≤ length (now (out .exit))) × (now (held .exit) ≡ heldAfter (now (held .entry)) len [] (now (piece .entry)))

@@ -1,10 +1,10 @@
 -- Each of the code's cases says what `traced` gives for its line. Assumes nothing.
 use mathlib.Core.Path.{_≡_, refl, ap, sym, _∙_}
-use mathlib.Core.Bool.{Bool, true, cond}
+use mathlib.Core.Bool.{Bool, true, false, cond}
 use mathlib.Core.List.{List}
-use Prim.Native.Nat.{ℕ, zero, suc, _<_, _≤_}
+use Prim.Native.Nat.{ℕ, zero, suc, _+_, _*_, _<_, _≤_}
 use native.Mathlib.Omega.{arith}
-use borrow.Author.Tests.{lt-ltb, le-ltb}
+use borrow.Author.Tests.{lt-ltb, le-ltb, ltb-true, ltb-false}
 use lib.Dec.{eqb, ltb}
 use lib.ListN.{length, getD}
 use Rattle.bits.proofs.Decide.{clash}
@@ -31,6 +31,7 @@ use Rattle.text.proofs.Laws.{wrote-as}
 use Rattle.trace_lines.specs.declared.Line.{Line}
 use Rattle.trace_lines.specs.declared.Line.the-variants.{Event, Unreadable, Device as MadeLine}
 use Rattle.trace_lines.specs.Lines.{lineOf}
+use Rattle.trace_lines.proofs.Laws.{line-tiny}
 use Rattle.text_answers.specs.Answers.{Keeps, answerLine, shownLine, refusedLine}
 use Rattle.text_answers.proofs.Laws.{told-line, refused-short, told-short}
 use Rattle.trace_session.specs.Tracing.Session.{NoDevice, With}
@@ -145,10 +146,18 @@ module _ (x : Session) (said : Line) (text : List ℕ) (read : said ≡ lineOf (
   unfolding traced
   unreadable-said e = rw (← read, e)
 
--- no answer is longer than this
+-- no answer is longer than 26 bytes, nor than ten for each byte of its line with the newline
 pub traced-short : (x : Session) (l : Line) → length (traced x l .line) ≤ 26
 unfolding traced
 traced-short x Unreadable = omega (arith, refused-short 7)
 traced-short x (MadeLine part choice levels) = told-short part (out Nothing (powerOn (partOf part) choice levels))
 traced-short NoDevice (Event kind arg) = omega (arith, refused-short 7)
 traced-short (With part s) (Event kind arg) = told-short part (stepped (partOf part) s kind arg)
+
+pub answer-short : (x : Session) (text : List ℕ) → length (answerTo x text .line) ≤ 10 * (length text + 1)
+unfolding traced
+answer-short x text = go (ltb (length text) 2) refl
+  where
+    go : (t : Bool) → ltb (length text) 2 ≡ t → length (answerTo x text .line) ≤ 10 * (length text + 1)
+    go true e = omega (arith, ap (λ (l : Line). length (traced x l .line)) (line-tiny (partIn x) text (ltb-true (length text) 2 e)), refused-short 7)
+    go false e = omega (arith, traced-short x (lineOf (partIn x) text), ltb-false (length text) 2 e)

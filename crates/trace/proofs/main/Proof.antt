@@ -10,19 +10,19 @@ use Rattle.trace.proofs.main.Tie as tie
 
 abbrev Inv-loop : tie.InvT-loop
 Inv-loop piece₀ out₀ rows₀ next₀ words₀ told₀ kept₀ held₀ len₀ turns₀ piece out rows next words told kept held len turns =
-    (length piece ≡ 16384) × (length out ≡ 425984) × (len ≤ 33) × (length held ≡ 33) × Kept words × Beside words rows next told kept
+    (length piece ≡ 16384) × (length out ≡ 164196) × (len ≤ 33) × (length held ≡ 33) × Kept words × Beside words rows next told kept
 
 abbrev μ-loop : tie.MeasureT-loop
 μ-loop piece₀ out₀ rows₀ next₀ words₀ told₀ kept₀ held₀ len₀ turns₀ piece out rows next words told kept held len turns = turns
 
 loop-holds : tie.Need-loop-holds Inv-loop μ-loop
-loop-holds c = (length-replicate {A = ℕ} 16384 0, length-replicate {A = ℕ} 425984 0, omega arith, length-replicate {A = ℕ} 33 0, c .before .start .ensures .1, c .before .start .ensures .2 _ _ _ _ (length-replicate {A = ℕ} 22 0))
+loop-holds c = (length-replicate {A = ℕ} 16384 0, length-replicate {A = ℕ} 164196 0, omega arith, length-replicate {A = ℕ} 33 0, c .before .start .ensures .1, c .before .start .ensures .2 _ _ _ _ (length-replicate {A = ℕ} 22 0))
 
 feed-requires : tie.Need-feed-requires Inv-loop μ-loop
 feed-requires c κs =
     let counted = c .before .before .before .before .before .before .before .before .before .before in
     let here = counted .before .before .before .before .before .before .loop .inv in
-    (search needs, search needs, search needs, omega (arith, counted .count .ensures, here .0, here .1), search needs)
+    (search needs, search needs, search needs, omega (arith, counted .count .ensures, here .0, here .1, here .2), search needs)
 
 pub main-spec : {M : Type 1} → statement M
 main-spec =
