@@ -14,7 +14,7 @@ use Rattle.device_rules.specs.declared.Answer.the-variants.{Nothing}
 use Rattle.device_rules.specs.Refusals.{argumentFits, refusal, stepped, eventOf}
 use Rattle.device_rules.specs.PowerOn.{powerOn}
 use Rattle.device_rules.proofs.Images.{taken}
-use Rattle.device_demands.specs.Run.{Asked, after, seenFrom, run}
+use Rattle.device_demands.specs.Run.{Asked, after, seenFrom}
 use Rattle.device_demands.proofs.Lawful.{Lawful, lawful24, lawful34}
 use Rattle.device_demands.proofs.Keeps.{WellFormed, image-of, stepped-keeps, power-on-fits}
 use Rattle.device_demands.proofs.Runs.{step-answers}

@@ -1,5 +1,4 @@
 -- `text_answers::digits_of`: by the part (`sister`). Assumes nothing.
-use borrow.Author.Needs.{needs}
 use mathlib.Core.Path.{ap, sym}
 use Prim.Native.Nat.{ℕ}
 use native.Mathlib.Omega.{arith}

@@ -1,7 +1,7 @@
 -- `trace_session::event`: told where the words hold a device, refusal 7 where they hold none. Assumes nothing.
 use borrow.Author.Needs.{needs}
 use borrow.Author.Tests.{lt-ltb}
-use mathlib.Core.Path.{sym, _∙_}
+use mathlib.Core.Path.{sym}
 use Prim.Native.Nat.{ℕ}
 use lib.ListN.{getD}
 use Rattle.words_device.proofs.Answering.{answered}
