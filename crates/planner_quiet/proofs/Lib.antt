@@ -1,9 +1,11 @@
+pub mod Along
 pub mod Blocked
 pub mod Calm
 pub mod Exactly
 pub mod Lift
 pub mod Needed
 pub mod Pin
+pub mod Plannable
 pub mod Quietly
 pub mod Standing
 pub mod Theorems

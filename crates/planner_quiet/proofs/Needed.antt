@@ -12,10 +12,18 @@ use Rattle.planner_quiet.specs.Order.{Good}
 use Rattle.planner_quiet.specs.Route.{needed}
 use Rattle.planner_quiet.proofs.Calm.{idle}
 
--- each write of a list is a byte to one of the registers
-abbrev pub Sane : Shape → List Write → Type 0
-Sane p [] = Unit {0}
-Sane p (w ∷ ws) = (placeOf p w < length (p .registers)) × (w .value < 256) × Sane p ws
+-- every write of a list
+abbrev pub All : (P : Write → Type 0) → List Write → Type 0
+All P [] = Unit {0}
+All P (w ∷ ws) = P w × All P ws
+
+-- it is a byte to one of the registers
+abbrev pub SaneWrite : Shape → Write → Type 0
+SaneWrite p w = (placeOf p w < length (p .registers)) × (w .value < 256)
+
+-- it is there already
+abbrev pub IdleWrite : Shape → Settings → Write → Type 0
+IdleWrite p s w = stored p (placeOf p w) (w .value) ≡ getD s (placeOf p w) 0
 
 module _ (p : Shape) where
   -- the test of `needed`
@@ -44,9 +52,9 @@ module _ (p : Shape) where
       go true h = omega arith
       go false h = omega arith
 
-  pub good-needed : (s : Settings) (ws : List Write) → Sane p ws → (i : ℕ) → i < length (needed p s ws) → Good p s (needed p s ws) i
+  pub good-needed : (s : Settings) (ws : List Write) → All (SaneWrite p) ws → (i : ℕ) → i < length (needed p s ws) → Good p s (needed p s ws) i
   good-needed s [] d i h = absurd (omega arith)
-  good-needed s (w ∷ ws) d i h = go (there s w) refl i h (good-needed (put p s w) ws (d .2))
+  good-needed s (w ∷ ws) d i h = go (there s w) refl i h (good-needed (put p s w) ws (d .1))
     where
       u : List Write
       u = needed p (put p s w) ws
@@ -54,15 +62,11 @@ module _ (p : Shape) where
       go : (b : Bool) → there s w ≡ b → (i : ℕ) → i < length (cond b [] (w ∷ []) ++ u)
           → ((i : ℕ) → i < length u → Good p (put p s w) u i) → Good p s (cond b [] (w ∷ []) ++ u) i
       go true e i h r = subst (λ (z : Settings). Good p z u i) (idle p s w e) (r i h)
-      go false e zero h r = record { known = d .0; byte = d .1; changes = eqb-false _ _ e }
+      go false e zero h r = record { known = d .0 .0; byte = d .0 .1; changes = eqb-false _ _ e }
       go false e (suc i) h r = let g = r i (omega arith) in record { known = g .known; byte = g .byte; changes = g .changes }
 
   -- a list of which every write is there already leaves nothing
-  abbrev pub Idle : Settings → List Write → Type 0
-  Idle s [] = Unit {0}
-  Idle s (w ∷ ws) = (stored p (placeOf p w) (w .value) ≡ getD s (placeOf p w) 0) × Idle s ws
-
-  pub none-needed : (s : Settings) (ws : List Write) → Idle s ws → needed p s ws ≡ []
+  pub none-needed : (s : Settings) (ws : List Write) → All (IdleWrite p s) ws → needed p s ws ≡ []
   none-needed s [] d = refl
   none-needed s (w ∷ ws) d =
       ap (λ (b : Bool). cond b [] (w ∷ []) ++ needed p (put p s w) ws) e

@@ -2,7 +2,7 @@
 use mathlib.Core.Path.{_≡_, refl, ap, _∙_}
 use mathlib.Core.Bool.{Bool, true, false, _&&_, _||_, and-self-left}
 use mathlib.Core.List.{List, [], _∷_}
-use Prim.Native.Nat.{ℕ, zero, suc, _*_}
+use Prim.Native.Nat.{ℕ, zero, suc}
 use Rattle.bits.proofs.Decide.{taut}
 use Rattle.pins.specs.Pin.{Drive, drive, isHigh, openDrain}
 use Rattle.planner_quiet.specs.Settings.{PinBits, driveIn}
@@ -18,22 +18,26 @@ times (suc m) b bs = b ∷ times m b bs
 abbrev pub bits : (output configuration portKind pinKind : Bool) → PinBits
 bits output configuration portKind pinKind = record { output = output; configuration = configuration; portKind = portKind; pinKind = pinKind }
 
--- the states of a pin along the whole route of a part in which k ports stand before its own and r after it: it waits while these are written
-abbrev pub walk : (k r : ℕ) (s g : PinBits) → List PinBits
-walk k r s g =
-    times (suc (2 * k)) s
-    (bits (midOutput s g) (s .configuration) (s .portKind) (s .pinKind)
-    ∷ times (suc (2 * r)) (bits (midOutput s g) (midConfiguration s g) (s .portKind) (s .pinKind))
-    (times (suc (3 * k)) (bits (midOutput s g) (midConfiguration s g) (g .portKind) (s .pinKind))
-    (bits (midOutput s g) (midConfiguration s g) (g .portKind) (g .pinKind)
-    ∷ bits (g .output) (midConfiguration s g) (g .portKind) (g .pinKind)
-    ∷ times (suc (3 * r)) g [])))
+-- the states of a pin along the whole route: it waits while a writes go to ports before its own, b to those after it, c and d once more;
+-- in the middle its output and configuration bits are u and v
+abbrev pub walkBy : (a b c d : ℕ) (s g : PinBits) (u v : Bool) → List PinBits
+walkBy a b c d s g u v =
+    times (suc a) s
+    (bits u (s .configuration) (s .portKind) (s .pinKind)
+    ∷ times (suc b) (bits u v (s .portKind) (s .pinKind))
+    (times (suc c) (bits u v (g .portKind) (s .pinKind))
+    (bits u v (g .portKind) (g .pinKind)
+    ∷ bits (g .output) v (g .portKind) (g .pinKind)
+    ∷ times (suc d) g [])))
 
-abbrev pub walks : (k r : ℕ) (s g : PinBits) → Bool
-walks k r s g = fine (driveIn s) (driveIn g) (s .configuration && g .configuration) false (walk k r s g)
+abbrev pub walk : (a b c d : ℕ) (s g : PinBits) → List PinBits
+walk a b c d s g = walkBy a b c d s g (midOutput s g) (midConfiguration s g)
+
+abbrev pub walks : (a b c d : ℕ) (s g : PinBits) → Bool
+walks a b c d s g = fine (driveIn s) (driveIn g) (s .configuration && g .configuration) false (walk a b c d s g)
 
 -- the law of a part with one port: 256 cases
-alone : (os cs ps ks og cg pg kg : Bool) → (stuck (bits os cs ps ks) (bits og cg pg kg) || walks 0 0 (bits os cs ps ks) (bits og cg pg kg)) ≡ true
+alone : (os cs ps ks og cg pg kg : Bool) → (stuck (bits os cs ps ks) (bits og cg pg kg) || walks 0 0 0 0 (bits os cs ps ks) (bits og cg pg kg)) ≡ true
 unfolding drive isHigh openDrain midConfiguration midOutput
 alone = taut 8 _ _ tt
 
@@ -63,14 +67,14 @@ or-left true b e h = absurd (clash refl h)
 or-left false b e h = e
 
 -- the law of a part with any number of ports
-pub steady : (k r : ℕ) (s g : PinBits) → stuck s g ≡ false → walks k r s g ≡ true
-steady k r s g h =
+pub steady : (a b c d : ℕ) (s g : PinBits) → stuck s g ≡ false → walks a b c d s g ≡ true
+steady a b c d s g h =
     shorter .tests false
-    ∙ or-left (stuck s g) (walks 0 0 s g)
+    ∙ or-left (stuck s g) (walks 0 0 0 0 s g)
     (alone (s .output) (s .configuration) (s .portKind) (s .pinKind) (g .output) (g .configuration) (g .portKind) (g .pinKind)) h
   where
-    shorter : Like (driveIn s) (driveIn g) (s .configuration && g .configuration) (walk k r s g) (walk 0 0 s g)
-    shorter = wait (2 * k) s (under _ (wait (2 * r) _ (wait (3 * k) _ (under _ (under _ (wait (3 * r) g end))))))
+    shorter : Like (driveIn s) (driveIn g) (s .configuration && g .configuration) (walk a b c d s g) (walk 0 0 0 0 s g)
+    shorter = wait a s (under _ (wait b _ (wait c _ (under _ (under _ (wait d g end))))))
 
 -- ---- a pin whose bits are the same at both ends is left as it is
 pub same-config : (o c p k : Bool) → midConfiguration (bits o c p k) (bits o c p k) ≡ c
@@ -80,3 +84,12 @@ same-config = taut 4 _ _ tt
 pub same-output : (o c p k : Bool) → midOutput (bits o c p k) (bits o c p k) ≡ o
 unfolding midOutput midConfiguration
 same-output = taut 4 _ _ tt
+
+-- ---- and a place of a port that is no pin, whose bits are 0 at both ends, stays 0
+pub no-config : (ps ks pg kg : Bool) → midConfiguration (bits false false ps ks) (bits false false pg kg) ≡ false
+unfolding midConfiguration
+no-config = taut 4 _ _ tt
+
+pub no-output : (c p k : Bool) (g : PinBits) → midOutput (bits false c p k) g ≡ false
+unfolding midOutput
+no-output c p k g = refl

@@ -3,17 +3,16 @@ use mathlib.Core.Bool.{Bool, true, _&&_}
 use mathlib.Core.List.{List}
 use mathlib.Core.Logic.{_⊎_}
 use mathlib.Core.Path.{_≡_}
-use Prim.Native.Nat.{ℕ, suc, _*_, _^_, _<_}
+use Prim.Native.Nat.{ℕ, suc, _^_, _<_}
 use lib.ListN.{getD, length}
 use Rattle.bits.specs.Bits.{some, differs}
 use Rattle.pins.specs.Pin.{isHigh}
 use Rattle.planner_quiet.specs.Settings.{Shape, Settings, PinBits, bitsOf, driveIn, driveOf, Write, placeOf, stored, run, after, nth}
 
--- Well-formed settings: a byte for each register, and in the port kinds only a bit for each port.
+-- Well-formed settings: a byte for each register, with no bit that does not exist.
 pub record Sound (p : Shape) (s : Settings) : Type 0 where
   pub whole : length s ≡ length (p .registers)
-  pub bytes : (i : ℕ) → getD s i 0 < 256
-  pub kinds : getD s (2 * p .ports) 0 < 2 ^ p .ports
+  pub fits : (i : ℕ) → i < length (p .registers) → getD s i 0 < 2 ^ p .room i
 
 -- Write i of the list is a byte to one of the registers, and changes it.
 pub record Good (p : Shape) (start : Settings) (ws : List Write) (i : ℕ) : Type 0 where

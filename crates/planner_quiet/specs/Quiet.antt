@@ -8,85 +8,85 @@ use lib.ListN.{getD, length, take}
 use Rattle.pins.specs.Pin.{Drive}
 use Rattle.pins.specs.AllPins.{Within}
 use Rattle.pins.specs.OnePin.{driveOf, statusOf}
-use Rattle.map.specs.Map.{part24, fileFits}
+use Rattle.map.specs.Map.{Part, fileFits}
 use Rattle.registers.specs.Registers.{Core, onePin, written}
-use Rattle.planner_quiet.specs.Settings.{shape24, Settings, PinBits, bitsOf, driveIn, Write, place, nth}
+use Rattle.planner_quiet.specs.Settings.{shapeOf, registersOf, Settings, PinBits, bitsOf, driveIn, Write, place, nth}
 
 -- what the registers of a list hold
 abbrev pub readAll : List ℕ → List ℕ → List ℕ
 readAll file [] = []
 readAll file (n ∷ ns) = getD file n 0 ∷ readAll file ns
 
--- the ten bytes: 04 05 06 0C 0D 0E 5C 70 71 72
-abbrev pub settingsOf : Core → Settings
-settingsOf s = readAll (s .file) (shape24 .registers)
+-- the part's setting: what its registers of direction, output level and output kind hold
+abbrev pub settingsOf : Part → Core → Settings
+settingsOf p s = readAll (s .file) (registersOf p)
 
 -- a write is the device's own register write
-abbrev pub writes : Core → List Write → Core
-writes s [] = s
-writes s (w ∷ ws) = writes (written part24 s (w .register) (w .value)) ws
+abbrev pub writes : Part → Core → List Write → Core
+writes p s [] = s
+writes p s (w ∷ ws) = writes p (written p s (w .register) (w .value)) ws
 
 -- after the first t of them
-abbrev pub afterFirst : Core → List Write → ℕ → Core
-afterFirst s ws t = writes s (take t ws)
+abbrev pub afterFirst : Part → Core → List Write → ℕ → Core
+afterFirst p s ws t = writes p s (take t ws)
 
--- one of the ten registers
-abbrev pub isPlanned : ℕ → Type 0
-isPlanned n = place (shape24 .registers) n < 10
+-- one of the setting's registers
+abbrev pub isPlanned : Part → ℕ → Type 0
+isPlanned p n = place (registersOf p) n < length (registersOf p)
 
--- every write of the list is a byte to one of the ten registers
-abbrev pub Listed : List Write → Type 0
-Listed [] = Unit {0}
-Listed (w ∷ ws) = isPlanned (w .register) × (w .value < 256) × Listed ws
+-- every write of the list is a byte to one of the setting's registers
+abbrev pub Listed : Part → List Write → Type 0
+Listed p [] = Unit {0}
+Listed p (w ∷ ws) = isPlanned p (w .register) × (w .value < 256) × Listed p ws
 
 -- pin i on the device, and by settings alone
-abbrev pub driveAt : Core → ℕ → Drive
-driveAt s i = driveOf (onePin part24 s i)
+abbrev pub driveAt : Part → Core → ℕ → Drive
+driveAt p s i = driveOf (onePin p s i)
 
-abbrev pub inputAt : Core → ℕ → Bool
-inputAt s i = onePin part24 s i .registers .source .configuration
+abbrev pub inputAt : Part → Core → ℕ → Bool
+inputAt p s i = onePin p s i .registers .source .configuration
 
-abbrev pub statusAt : Core → ℕ → Bool
-statusAt s i = statusOf (onePin part24 s i)
+abbrev pub statusAt : Part → Core → ℕ → Bool
+statusAt p s i = statusOf (onePin p s i)
 
-abbrev pub bitsAt : Settings → ℕ → PinBits
-bitsAt g i = bitsOf shape24 g (i / 8) (i % 8)
+abbrev pub bitsAt : Part → Settings → ℕ → PinBits
+bitsAt p g i = bitsOf (shapeOf p) g (i / 8) (i % 8)
 
 -- Pin i along a course of moments, of which moment 0 is the start. At every moment its drive is its start's or its goal's; two moments at
 -- which it changes are one; and an input at both ends stays one, its status bit what it was at the start.
-pub record Still (course : ℕ → Core) (goal : Settings) (i : ℕ) : Type 0 where
-  pub either : (t : ℕ) → (driveAt (course t) i ≡ driveAt (course 0) i) ⊎ (driveAt (course t) i ≡ driveIn (bitsAt goal i))
+pub record Still (p : Part) (course : ℕ → Core) (goal : Settings) (i : ℕ) : Type 0 where
+  pub either : (t : ℕ) → (driveAt p (course t) i ≡ driveAt p (course 0) i) ⊎ (driveAt p (course t) i ≡ driveIn (bitsAt p goal i))
   pub once : (a b : ℕ)
-      → (driveAt (course a) i ≡ driveAt (course (suc a)) i → ⊥)
-      → (driveAt (course b) i ≡ driveAt (course (suc b)) i → ⊥)
+      → (driveAt p (course a) i ≡ driveAt p (course (suc a)) i → ⊥)
+      → (driveAt p (course b) i ≡ driveAt p (course (suc b)) i → ⊥)
       → a ≡ b
-  pub input : inputAt (course 0) i ≡ true → bitsAt goal i .configuration ≡ true
-      → (t : ℕ) → (inputAt (course t) i ≡ true) × (statusAt (course t) i ≡ statusAt (course 0) i)
+  pub input : inputAt p (course 0) i ≡ true → bitsAt p goal i .configuration ≡ true
+      → (t : ℕ) → (inputAt p (course t) i ≡ true) × (statusAt p (course t) i ≡ statusAt p (course 0) i)
 
 -- on the device whose registers and pins are s: the goal is reached, and every pin is still from write to write
-pub record QuietOn (s : Core) (goal : Settings) (ws : List Write) : Type 0 where
-  pub reached : settingsOf (writes s ws) ≡ goal
-  pub still : (i : ℕ) → i < 24 → Still (afterFirst s ws) goal i
+pub record QuietOn (p : Part) (s : Core) (goal : Settings) (ws : List Write) : Type 0 where
+  pub reached : settingsOf p (writes p s ws) ≡ goal
+  pub still : (i : ℕ) → i < p .width → Still p (afterFirst p s ws) goal i
 
 -- write t changes its register: the register holds something else after it
-abbrev pub Changing : Core → List Write → Type 0
-Changing s ws =
+abbrev pub Changing : Part → Core → List Write → Type 0
+Changing p s ws =
     (t : ℕ) → t < length ws
-    → getD (afterFirst s ws t .file) (nth ws t .register) 0 ≡ getD (afterFirst s ws (suc t) .file) (nth ws t .register) 0 → ⊥
+    → getD (afterFirst p s ws t .file) (nth ws t .register) 0 ≡ getD (afterFirst p s ws (suc t) .file) (nth ws t .register) 0 → ⊥
 
--- no register outside the ten is touched
-abbrev pub Sparing : Core → List Write → Type 0
-Sparing s ws = (n : ℕ) → (isPlanned n → ⊥) → (t : ℕ) → getD (afterFirst s ws t .file) n 0 ≡ getD (s .file) n 0
+-- no other register is touched
+abbrev pub Sparing : Part → Core → List Write → Type 0
+Sparing p s ws = (n : ℕ) → (isPlanned p n → ⊥) → (t : ℕ) → getD (afterFirst p s ws t .file) n 0 ≡ getD (s .file) n 0
 
 -- registers and pins that a well-formed device may have
-pub record Formed (s : Core) : Type 0 where
+pub record Formed (p : Part) (s : Core) : Type 0 where
   pub full : length (s .file) ≡ 128
-  pub fits : fileFits part24 (s .file) ≡ true
-  pub within : Within 24 (s .sets)
+  pub fits : fileFits p (s .file) ≡ true
+  pub within : Within (p .width) (s .sets)
 
 -- on every device that stands at the start, whatever the rest of its state
-abbrev pub OnAll : (start : Settings) → (Core → Type 0) → Type 0
-OnAll start P = (s : Core) → Formed s → settingsOf s ≡ start → P s
+abbrev pub OnAll : Part → (start : Settings) → (Core → Type 0) → Type 0
+OnAll p start P = (s : Core) → Formed p s → settingsOf p s ≡ start → P s
 
-abbrev pub Quiet : (start goal : Settings) → List Write → Type 0
-Quiet start goal ws = OnAll start (λ s. QuietOn s goal ws)
+abbrev pub Quiet : Part → (start goal : Settings) → List Write → Type 0
+Quiet p start goal ws = OnAll p start (λ s. QuietOn p s goal ws)

@@ -1,36 +1,38 @@
 -- The registers that set direction, output level and output kind, and writes to them.
 use mathlib.Core.Bool.{Bool, cond}
 use mathlib.Core.List.{List, [], _∷_, _++_}
-use Prim.Native.Nat.{ℕ, suc, _+_, _*_, _%_, _^_}
+use Prim.Native.Nat.{ℕ, suc, _+_, _-_, _*_, _%_, _^_, min}
 use lib.Dec.{eqb}
 use lib.ListN.{getD, set, take}
 use Rattle.bits.specs.Bits.{bit}
 use Rattle.pins.specs.Pin.{Drive, drive}
-use Rattle.map.specs.Map.{Part, Kind, part24, firstOf, entries}
+use Rattle.map.specs.Map.{Part, Kind, firstOf, entries, roomAt}
 use Rattle.map.specs.Map.Kind.{Output, Configuration, PortKind, PinKind}
 
--- What of a part the planner sees: its ports, the pins of each, and the numbers of these registers: output, configuration,
--- the output port kind, pin output kind.
+-- What of a part the planner sees: its ports, the pins of each, the numbers of these registers (output, configuration,
+-- the output port kind, pin output kind), and how many of the eight bits of the i-th of them exist.
 pub record Shape : Type 0 where
   pub ports : ℕ
   pub width : ℕ → ℕ
   pub registers : List ℕ
+  pub room : ℕ → ℕ
 
 -- the numbers of a group of one register a port
 abbrev pub numbersOf : Part → Kind → List ℕ
 numbersOf p k = entries (λ n. n) (firstOf p k) (p .ports)
 
--- of a part whose ports have eight pins each
+-- 04 05 06 0C 0D 0E 5C 70 71 72 of the 24-pin part, 05 to 09 0F to 13 53 68 to 6C of its sister
+abbrev pub registersOf : Part → List ℕ
+registersOf p = numbersOf p Output ++ numbersOf p Configuration ++ firstOf p PortKind ∷ numbersOf p PinKind
+
+-- eight pins a port, and in the last what is left
 abbrev pub shapeOf : Part → Shape
 shapeOf p = record {
   ports = p .ports;
-  width = λ k. 8;
-  registers = numbersOf p Output ++ numbersOf p Configuration ++ firstOf p PortKind ∷ numbersOf p PinKind;
+  width = λ k. min 8 (p .width - 8 * k);
+  registers = registersOf p;
+  room = λ i. roomAt p (getD (registersOf p) i 0);
 }
-
--- 04 05 06 0C 0D 0E 5C 70 71 72
-abbrev pub shape24 : Shape
-shape24 = shapeOf part24
 
 -- What the registers hold, in the order of `registers`.
 abbrev pub Settings : Type 0
@@ -73,9 +75,9 @@ place (x ∷ xs) r = cond (eqb x r) 0 (suc (place xs r))
 abbrev pub placeOf : Shape → Write → ℕ
 placeOf p w = place (p .registers) (w .register)
 
--- What is stored at place i when v is written: of the port kinds only a bit for each port.
+-- What is stored at place i when v is written: the bits that exist.
 abbrev pub stored : Shape → (i v : ℕ) → ℕ
-stored p i v = cond (eqb i (2 * p .ports)) (v % 2 ^ p .ports) v
+stored p i v = v % 2 ^ p .room i
 
 -- The settings after one write. A write to another register leaves them.
 abbrev pub put : Shape → Settings → Write → Settings
