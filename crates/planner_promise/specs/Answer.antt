@@ -5,10 +5,11 @@ use mathlib.Core.Path.{_≡_}
 use Prim.Native.Nat.{ℕ, _*_}
 use lib.Dec.{ltb}
 use lib.ListN.{length, drop}
-use Rattle.planner_quiet.specs.Settings.{shape24, Settings, Write}
+use Rattle.map.specs.Map.{Part}
+use Rattle.planner_quiet.specs.Settings.{shapeOf, Settings, Write}
 use Rattle.planner_quiet.specs.Order.{blocked}
 use Rattle.planner_quiet.specs.Route.{planOf}
-use Rattle.planner_promise.specs.Formed.{formed}
+use Rattle.planner_promise.specs.Formed.{formed, roomFor}
 use Rattle.planner_promise.specs.Promise.{bytesOf}
 use Rattle.planner_promise.specs.declared.Planned.{Planned}
 
@@ -17,10 +18,10 @@ pub data Answer : Type 0 where
   give : List Write → Answer
 
 -- the answer for a start, a goal and a buffer of so many bytes: 5, then 6, then 4, else the plan
-unfoldable pub answerOf : (start goal : Settings) → (room : ℕ) → Answer
-answerOf start goal room =
-    cond (formed start && formed goal)
-    (cond (ltb room 32) (refuse 6) (cond (blocked shape24 start goal) (refuse 4) (give (planOf shape24 start goal))))
+unfoldable pub answerOf : Part → (start goal : Settings) → (room : ℕ) → Answer
+answerOf p start goal room =
+    cond (formed p start && formed p goal)
+    (cond (ltb room (roomFor p)) (refuse 6) (cond (blocked (shapeOf p) start goal) (refuse 4) (give (planOf (shapeOf p) start goal))))
     (refuse 5)
 
 -- the function's result r, and the buffer before and after, are that answer
@@ -29,6 +30,6 @@ Answers r before after (refuse c) = (r ≡ Planned.Refused c) × (after ≡ befo
 Answers r before after (give ws) = (r ≡ Planned.Writes (length ws)) × (after ≡ bytesOf ws ++ drop (2 * length ws) before)
 
 -- the plan stands at the front of the buffer: n writes
-pub record Planted (start goal : Settings) (n : ℕ) (before after : List ℕ) : Type 0 where
-  pub count : n ≡ length (planOf shape24 start goal)
-  pub bytes : after ≡ bytesOf (planOf shape24 start goal) ++ drop (2 * length (planOf shape24 start goal)) before
+pub record Planted (p : Part) (start goal : Settings) (n : ℕ) (before after : List ℕ) : Type 0 where
+  pub count : n ≡ length (planOf (shapeOf p) start goal)
+  pub bytes : after ≡ bytesOf (planOf (shapeOf p) start goal) ++ drop (2 * length (planOf (shapeOf p) start goal)) before

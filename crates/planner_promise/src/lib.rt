@@ -11,8 +11,3 @@ pub const NO_QUIET_WAY: u8 = 4;
 pub const BAD_SETTING: u8 = 5;
 
 pub const BUFFER_SMALL: u8 = 6;
-
-// How many bytes a setting of the 24-pin part has, and where its output port kind stands among them.
-pub const SETTING_BYTES: usize = 10;
-
-pub const KINDS_AT: usize = 6;
