@@ -1,9 +1,9 @@
--- A pin's bits in its port's bytes.
+-- A pin's bits in a setting's pin sets.
 use Prim.Native.Nat.{ℕ}
 use Rattle.bits.specs.Bits.{bit}
 use Rattle.planner_quiet.specs.Settings.{PinBits}
-use Rattle.planner_bytes.specs.declared.PortBytes.{PortBytes}
+use Rattle.planner_bytes.specs.declared.PinSets.{PinSets}
 
--- bit j of a port's four bytes
-abbrev pub pinIn : PortBytes → ℕ → PinBits
-pinIn x j = record { output = bit (x .output) j; configuration = bit (x .configuration) j; portKind = bit (x .kind) j; pinKind = bit (x .flip) j }
+-- bit i of the four sets
+abbrev pub pinIn : PinSets → ℕ → PinBits
+pinIn x i = record { output = bit (x .output) i; configuration = bit (x .configuration) i; portKind = bit (x .kind) i; pinKind = bit (x .flip) i }

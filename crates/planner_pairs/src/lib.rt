@@ -1,22 +1,19 @@
 // Pairs of bytes at the front of a buffer: a register and what is written to it, where that changes what is there.
-ghost use Prim.Native.Nat.{_≤_};
+ghost use mathlib.Core.List.{List, _++_};
+ghost use Prim.Native.Nat.{ℕ, _+_, _*_, _≤_};
 ghost use lib.ListN.{length};
-ghost use Rattle.planner_pairs.specs.Pairs.{kept, Emitted};
+ghost use Rattle.planner_pairs.specs.Pairs.{pairOf, Emitted};
 
-// Lays the pairs at which `was` and `to` differ at the start of the buffer; their number.
-pub fn emit(regs: &[u8; 16], was: &[u8; 16], to: &[u8; 16], buf: &mut [u8]) -> usize
-    requires { ⌜ 32 ≤ length (now buf) ⌝ }
-    ensures { λ r. ⌜ Emitted (kept (now (regs .entry)) (now (was .entry)) (now (to .entry)) 16) r (now (buf .entry)) (now (buf .exit)) ⌝ }
+// Lays the pair of a register behind n others, unless it holds the value already; how many there are then.
+pub fn put(buf: &mut [u8], n: usize, register: u8, was: u8, to: u8) -> usize
+    requires { ⌜ 2 * n + 2 ≤ length (now buf) ⌝ }
+    ensures { λ r. ⌜ ((out before : List ℕ) → Emitted out n before (now (buf .entry)) → Emitted (out ++ pairOf register was to) r before (now (buf .exit)))
+        × (r ≤ n + 1) ⌝ }
 {
-    let mut n = 0;
-    let mut i = 0;
-    while i < 16 {
-        if was[i] != to[i] {
-            buf[2 * n] = regs[i];
-            buf[2 * n + 1] = to[i];
-            n += 1;
-        }
-        i += 1;
+    if was == to {
+        return n;
     }
-    n
+    buf[2 * n] = register;
+    buf[2 * n + 1] = to;
+    n + 1
 }

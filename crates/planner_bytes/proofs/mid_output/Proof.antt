@@ -5,7 +5,7 @@ use Rattle.planner_bytes.proofs.mid_output.Statement.{statement}
 use Rattle.planner_bytes.proofs.mid_output.Tie as tie
 
 returns : tie.Need-returns
-returns c = output-set 8 _ _ (search needs) _ (c .before .before .mid-configuration .ensures)
+returns c = output-set _ _ _ (c .before .before .mid-configuration .ensures)
 
 pub mid-output-spec : {M : Type 1} → statement M
 mid-output-spec = tie.close (tie.spec (λ c κs. search needs) returns)
