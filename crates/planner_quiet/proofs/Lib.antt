@@ -2,6 +2,7 @@ pub mod Along
 pub mod Blocked
 pub mod Calm
 pub mod Exactly
+pub mod Found
 pub mod Lift
 pub mod Needed
 pub mod Pin

@@ -10,7 +10,7 @@ use lib.Dec.{ltb}
 use lib.ListN.{getD, length, length-append, length-set}
 use lib.Pow.{pow-pos}
 use lib.Seq.{ext-getD}
-use Rattle.bits.specs.Bits.{bit, tabulate}
+use Rattle.bits.specs.Bits.{bit}
 use Rattle.bits.proofs.Laws.{bit-ext, bit-high, bit-mod, bit-tabulate, tabulate-lt}
 use Rattle.planner_quiet.specs.Settings.{Shape, Settings, PinBits, bitsOf, driveIn, driveOf, Write, put, run}
 use Rattle.planner_quiet.specs.Order.{Sound, stuck}
@@ -20,53 +20,54 @@ use Rattle.planner_quiet.proofs.Calm.{fine, later, Fine}
 use Rattle.planner_quiet.proofs.Needed.{All}
 use Rattle.planner_quiet.proofs.Pin.{bits, walkBy, steady, no-config, no-output}
 
--- a byte by its bits is as small as its bits say
-few-bits : (w : ℕ) (f : ℕ → Bool) → ((j : ℕ) → w ≤ j → f j ≡ false) → tabulate 8 f < 2 ^ w
-few-bits w f none = subst (λ (n : ℕ). n < 2 ^ w) (sym same) (mod-lt x (pow-pos w))
+-- a number is as small as its bits say
+pub few-bits : (n w x : ℕ) → x < 2 ^ n → ((i : ℕ) → i < n → w ≤ i → bit x i ≡ false) → x < 2 ^ w
+few-bits n w x h none = subst (λ (y : ℕ). y < 2 ^ w) (sym same) (mod-lt x (pow-pos w))
   where
-    x : ℕ
-    x = tabulate 8 f
+    go : (b : Bool) {i : ℕ} → ltb i w ≡ b → i < n → bit x i ≡ bit (x % 2 ^ w) i
+    go true {i} e q = sym (bit-mod w x i (ltb-true i w e))
+    go false {i} e q =
+        let l : w ≤ i = ltb-false i w e in
+        none i q l ∙ sym (bit-high w (x % 2 ^ w) i (mod-lt x (pow-pos w)) l)
 
     same : x ≡ x % 2 ^ w
-    same = bit-ext 8 x (x % 2 ^ w) (tabulate-lt 8 f) (omega (arith, mod-le x (2 ^ w), tabulate-lt 8 f)) (λ i h. go (ltb i w) refl h)
-      where
-        go : (b : Bool) {i : ℕ} → ltb i w ≡ b → i < 8 → bit x i ≡ bit (x % 2 ^ w) i
-        go true {i} e h = sym (bit-mod w x i (ltb-true i w e))
-        go false {i} e h =
-            let l : w ≤ i = ltb-false i w e in
-            bit-tabulate 8 f i h ∙ none i l ∙ sym (bit-high w (x % 2 ^ w) i (mod-lt x (pow-pos w)) l)
+    same = bit-ext n x (x % 2 ^ w) h (omega (arith, mod-le x (2 ^ w), h)) (λ i q. go (ltb i w) refl q)
+
+pub run-length : (p : Shape) (s : Settings) (ws : List Write) → length (run p s ws) ≡ length s
+run-length p s [] = refl
+run-length p s (w ∷ ws) = run-length p (put p s w) ws ∙ length-set s _ _
 
 module _ (p : Shape) (ok : Regular p) (start goal : Settings) (ds : Sound p start) (dg : Sound p goal) where
   -- ---- what is written fits
   module _ (k : ℕ) (hk : k < p .ports) where
-    fits-output : (s : Settings) → Sound p s → getD s k 0 < 2 ^ p .width k
+    pub fits-output : (s : Settings) → Sound p s → getD s k 0 < 2 ^ p .width k
     fits-output s d = subst (λ (n : ℕ). getD s k 0 < 2 ^ n) (ok .room-output k hk) (d .fits k (omega (arith, ok .count, hk)))
 
-    fits-configuration : (s : Settings) → Sound p s → getD s (p .ports + k) 0 < 2 ^ p .width k
+    pub fits-configuration : (s : Settings) → Sound p s → getD s (p .ports + k) 0 < 2 ^ p .width k
     fits-configuration s d = subst (λ (n : ℕ). getD s (p .ports + k) 0 < 2 ^ n) (ok .room-configuration k hk) (d .fits (p .ports + k) (omega (arith, ok .count, hk)))
 
-    fits-pin-kinds : (s : Settings) → Sound p s → getD s (2 * p .ports + 1 + k) 0 < 2 ^ p .width k
+    pub fits-pin-kinds : (s : Settings) → Sound p s → getD s (2 * p .ports + 1 + k) 0 < 2 ^ p .width k
     fits-pin-kinds s d =
         subst (λ (n : ℕ). getD s (2 * p .ports + 1 + k) 0 < 2 ^ n) (ok .room-pin-kind k hk) (d .fits (2 * p .ports + 1 + k) (omega (arith, ok .count, hk)))
 
     -- a place that is no pin has no bit
-    no-out : (s : Settings) → Sound p s → (j : ℕ) → p .width k ≤ j → bitsOf p s k j .output ≡ false
+    pub no-out : (s : Settings) → Sound p s → (j : ℕ) → p .width k ≤ j → bitsOf p s k j .output ≡ false
     no-out s d j h = bit-high (p .width k) (getD s k 0) j (fits-output s d) h
 
     no-con : (s : Settings) → Sound p s → (j : ℕ) → p .width k ≤ j → bitsOf p s k j .configuration ≡ false
     no-con s d j h = bit-high (p .width k) (getD s (p .ports + k) 0) j (fits-configuration s d) h
 
     pub mid-output-fits : midOutputs p start goal k < 2 ^ p .width k
-    mid-output-fits = few-bits (p .width k) _ (λ j h.
+    mid-output-fits = few-bits 8 (p .width k) (midOutputs p start goal k) (tabulate-lt 8 _) (λ j q h.
         let x = bitsOf p start k j in
-        ap (λ (o : Bool). midOutput (bits o (x .configuration) (x .portKind) (x .pinKind)) (bitsOf p goal k j)) (no-out start ds j h)
+        bit-tabulate 8 _ j q ∙ ap (λ (o : Bool). midOutput (bits o (x .configuration) (x .portKind) (x .pinKind)) (bitsOf p goal k j)) (no-out start ds j h)
         ∙ no-output (x .configuration) (x .portKind) (x .pinKind) (bitsOf p goal k j))
 
     pub mid-configuration-fits : midConfigurations p start goal k < 2 ^ p .width k
-    mid-configuration-fits = few-bits (p .width k) _ (λ j h.
+    mid-configuration-fits = few-bits 8 (p .width k) (midConfigurations p start goal k) (tabulate-lt 8 _) (λ j q h.
         let x = bitsOf p start k j in
         let y = bitsOf p goal k j in
-        (λ t. midConfiguration (bits (no-out start ds j h t) (no-con start ds j h t) (x .portKind) (x .pinKind)) (bits (no-out goal dg j h t) (no-con goal dg j h t) (y .portKind) (y .pinKind)))
+        bit-tabulate 8 _ j q ∙ (λ t. midConfiguration (bits (no-out start ds j h t) (no-con start ds j h t) (x .portKind) (x .pinKind)) (bits (no-out goal dg j h t) (no-con goal dg j h t) (y .portKind) (y .pinKind)))
         ∙ no-config (x .portKind) (x .pinKind) (y .portKind) (y .pinKind))
 
   pub fits-kinds : getD goal (2 * p .ports) 0 < 2 ^ p .ports
@@ -74,7 +75,7 @@ module _ (p : Shape) (ok : Regular p) (start goal : Settings) (ds : Sound p star
 
   -- ---- port k along the route
   module _ (k j : ℕ) (hk : k < p .ports) where
-    open-apart : (l : ℕ) → l < p .ports → (k ≡ l → ⊥) → Apart p ok k j hk (opening p start goal l)
+    pub open-apart : (l : ℕ) → l < p .ports → (k ≡ l → ⊥) → Apart p ok k j hk (opening p start goal l)
     open-apart l h o = (
       other p ok k j hk l (omega (arith, ok .count, h)) (o, λ e. omega (arith, e, h), λ e. omega (arith, e, h), λ e. omega (arith, e, h)),
       (
@@ -84,7 +85,7 @@ module _ (p : Shape) (ok : Regular p) (start goal : Settings) (ds : Sound p star
       ),
     )
 
-    close-apart : (l : ℕ) → l < p .ports → (k ≡ l → ⊥) → Apart p ok k j hk (closing p goal l)
+    pub close-apart : (l : ℕ) → l < p .ports → (k ≡ l → ⊥) → Apart p ok k j hk (closing p goal l)
     close-apart l h o = (
       other p ok k j hk (2 * p .ports + 1 + l) (omega (arith, ok .count, h))
           (λ e. omega (arith, e, hk), λ e. omega (arith, e, hk), λ e. omega (arith, e), λ e. o (omega (arith, e))),
@@ -167,14 +168,10 @@ module _ (p : Shape) (ok : Regular p) (start goal : Settings) (ds : Sound p star
     port-reached = ap (λ (ws : List Write). fourOf p (run p start ws) k) in-turn ∙ along .1
 
   -- ---- the goal is reached: at every place, of whatever port
-  run-length : (s : Settings) (ws : List Write) → length (run p s ws) ≡ length s
-  run-length s [] = refl
-  run-length s (w ∷ ws) = run-length (put p s w) ws ∙ length-set s _ _
-
   pub reaches : run p start (route p start goal) ≡ goal
   reaches =
-      ext-getD 0 z goal (run-length start (route p start goal) ∙ ds .whole ∙ sym (dg .whole)) (λ i h.
-      at (ltb i n) i refl (ltb i (2 * n)) refl (ltb (2 * n) i) refl (omega (arith, h, run-length start (route p start goal), ds .whole, ok .count)))
+      ext-getD 0 z goal (run-length p start (route p start goal) ∙ ds .whole ∙ sym (dg .whole)) (λ i h.
+      at (ltb i n) i refl (ltb i (2 * n)) refl (ltb (2 * n) i) refl (omega (arith, h, run-length p start (route p start goal), ds .whole, ok .count)))
     where
       z : Settings
       z = run p start (route p start goal)
