@@ -1,3 +1,5 @@
 pub mod Formed
-pub mod Halves
-pub mod Sixteen
+pub mod Planted
+pub mod Shells
+pub mod Steps
+pub mod Words

@@ -1,2 +1,2 @@
-pub mod Halfway
-pub mod Sixteen
+pub mod Loaded
+pub mod Pairwise

@@ -1,203 +1,279 @@
-// The planner: from a start to a goal for the ten registers that set direction, output level and output kind.
+// The planner: from a start to a goal for the registers that set direction, output level and output kind, of either part.
 ghost use mathlib.Core.Path.{_≡_};
-ghost use Rattle.planner_promise.specs.Formed.{formed};
-ghost use Prim.Native.Nat.{_<_, _/_, _%_};
+ghost use mathlib.Core.Bool.{true, cond, _&&_};
+ghost use mathlib.Core.List.{List};
+ghost use Prim.Native.Nat.{ℕ, _+_, _*_, _≤_, _<_};
 ghost use lib.ListN.{length, getD};
-ghost use Rattle.bits.specs.Bits.{tabulate};
-ghost use Rattle.planner_quiet.specs.Settings.{shape24, bitsOf};
-ghost use Rattle.planner_quiet.specs.Order.{stuck, blocked};
-ghost use Rattle.planner.specs.Halfway.{Loaded, Halfway};
-ghost use Rattle.planner_promise.specs.Answer.{Planted, answerOf, Answers};
-ghost use Rattle.planner.specs.Sixteen.{wasOf, toOf, Ready};
-ghost use mathlib.Core.Bool.{cond, _&&_};
+ghost use Rattle.bits.specs.Bits.{join, tabulate};
+ghost use Rattle.map.specs.Map.{part24, part34, partOf};
+ghost use Rattle.planner_quiet.specs.Order.{stuck};
+ghost use Rattle.planner_quiet.specs.Quiet.{bitsAt};
+ghost use Rattle.planner_promise.specs.Formed.{formed, roomFor};
+ghost use Rattle.planner_promise.specs.Answer.{answerOf, Answers};
 ghost use Rattle.planner_promise.specs.Promise.{refusalOf, countOf, Promise};
+ghost use Rattle.planner_pairs.specs.Pairs.{Emitted};
+ghost use Rattle.planner.specs.Loaded.{LaidOut, Loaded, Halfway, early};
+ghost use Rattle.planner.specs.Pairwise.{turnPairs, opensTo, closePairs, closesTo};
 use device::Device;
-use planner_bytes::PortBytes;
+use planner_bytes::PinSets;
 use planner_promise::BAD_SETTING;
 use planner_promise::BUFFER_SMALL;
-use planner_promise::KINDS_AT;
 use planner_promise::NO_QUIET_WAY;
 use planner_promise::Planned;
-use planner_promise::SETTING_BYTES;
 
-// Whether s is ten bytes with no bit past port 2 in the output port kind.
-pub fn is_formed(s: &[u8]) -> bool
-    ensures { λ r. ⌜ r ≡ formed (now (s .entry)) ⌝ }
-{
-    if s.len() != SETTING_BYTES {
-        return false;
-    }
-    s[KINDS_AT] < 8
-}
+// The parts by their numbers.
+const PART24: u64 = 0;
 
-// What the settings s say of port k.
-fn port(s: &[u8], k: u8) -> PortBytes
-    requires { ⌜ (length (now s) ≡ 10) × (getD (now s) 6 0 < 8) × (k < 3) ⌝ }
-    ensures { λ r. ⌜ Loaded (now (s .entry)) k r ⌝ }
-{
-    let at = k as usize;
-    let kinds = ports::spread(s[KINDS_AT]);
-    let kind = ports::byte_of(kinds, k);
-    PortBytes {
-        output: s[at],
-        configuration: s[3 + at],
-        kind,
-        flip: s[7 + at],
-    }
-}
+const PART34: u64 = 1;
 
-// The pins of port k that are stuck.
-pub fn port_stuck(start: &[u8], goal: &[u8], k: u8) -> u8
-    requires { ⌜ (length (now start) ≡ 10) × (getD (now start) 6 0 < 8) × (length (now goal) ≡ 10) × (getD (now goal) 6 0 < 8) × (k < 3) ⌝ }
-    ensures { λ r. ⌜ r ≡ tabulate 8 (λ j. stuck (bitsOf shape24 (now (start .entry)) k j) (bitsOf shape24 (now (goal .entry)) k j)) ⌝ }
-{
-    planner_bytes::stuck_in(port(start, k), port(goal, k))
-}
+// The sister's bound, and the room for so many writes.
+pub const WRITE_BOUND34: usize = 26;
 
-// Whether a pin is stuck.
-pub fn is_blocked(start: &[u8], goal: &[u8]) -> bool
-    requires { ⌜ (length (now start) ≡ 10) × (getD (now start) 6 0 < 8) × (length (now goal) ≡ 10) × (getD (now goal) 6 0 < 8) ⌝ }
-    ensures { λ r. ⌜ r ≡ blocked shape24 (now (start .entry)) (now (goal .entry)) ⌝ }
-{
-    let a = port_stuck(start, goal, 0) != 0;
-    let b = port_stuck(start, goal, 1) != 0;
-    let c = port_stuck(start, goal, 2) != 0;
-    a | (b | c)
-}
+pub const PLAN_ROOM34: usize = 2 * WRITE_BOUND34;
 
-// A port's output and configuration in the middle of the plan.
-pub struct Middle {
+// What the planner knows of a part: its ports, the first register of each group, and the most that a setting's byte may be
+// in the output port kind and in the last port.
+pub struct Layout {
+    pub ports: u8,
     pub output: u8,
     pub configuration: u8,
+    pub kind: u8,
+    pub flip: u8,
+    pub kinds: u8,
+    pub last: u8,
 }
 
-pub fn mid_port(start: &[u8], goal: &[u8], k: u8) -> Middle
-    requires { ⌜ (length (now start) ≡ 10) × (getD (now start) 6 0 < 8) × (length (now goal) ≡ 10) × (getD (now goal) 6 0 < 8) × (k < 3) ⌝ }
-    ensures { λ r. ⌜ Halfway (now (start .entry)) (now (goal .entry)) k r ⌝ }
+const LAYOUT24: Layout = Layout {
+    ports: 3,
+    output: map::OUTPUT24_0,
+    configuration: map::CONFIGURATION24_0,
+    kind: map::PORT_KIND24,
+    flip: map::PIN_KIND24_0,
+    kinds: 0x07,
+    last: 0xff,
+};
+
+const LAYOUT34: Layout = Layout {
+    ports: 5,
+    output: 0x05,
+    configuration: 0x0f,
+    kind: 0x53,
+    flip: 0x68,
+    kinds: 0x1f,
+    last: 0x03,
+};
+
+fn laid_out(part: u64) -> Layout
+    ensures { λ l. ⌜ LaidOut (partOf part) l ⌝ }
 {
-    let s = port(start, k);
-    let g = port(goal, k);
-    Middle {
+    if part == 0 {
+        return LAYOUT24;
+    }
+    LAYOUT34
+}
+
+// Whether s is a setting of the part: a byte a register, and no bit that does not exist.
+pub fn is_formed(part: u64, s: &[u8]) -> bool
+    ensures { λ r. ⌜ r ≡ formed (partOf part) (now (s .entry)) ⌝ }
+{
+    let l = laid_out(part);
+    let n = l.ports as usize;
+    if s.len() != 3 * n + 1 {
+        return false;
+    }
+    (s[2 * n] <= l.kinds) & (s[n - 1] <= l.last) & (s[2 * n - 1] <= l.last) & (s[3 * n] <= l.last)
+}
+
+// Why there is no plan whatever the pins do: 5, then 6; 0 for nothing.
+fn refused_early(part: u64, start: &[u8], goal: &[u8], room: usize, needed: usize) -> u8
+    ensures { λ r. ⌜ r ≡ early (partOf part) (now (start .entry)) (now (goal .entry)) room needed ⌝ }
+{
+    if !is_formed(part, start) {
+        return BAD_SETTING;
+    }
+    if !is_formed(part, goal) {
+        return BAD_SETTING;
+    }
+    if room < needed {
+        return BUFFER_SMALL;
+    }
+    0
+}
+
+// The bytes of n ports as a pin set.
+fn word(s: &[u8], at: usize, n: usize) -> u64
+    requires { ⌜ (at + n ≤ length (now s)) × (n ≤ 8) ⌝ }
+    ensures { λ r. ⌜ r ≡ join 8 n (λ k. getD (now (s .entry)) (at + k) 0) ⌝ }
+{
+    let mut w = 0u64;
+    let mut k = n;
+    while 0 < k {
+        k -= 1;
+        w = w * 256 + s[at + k] as u64;
+    }
+    w
+}
+
+// A setting as pin sets.
+fn load(part: u64, s: &[u8]) -> PinSets
+    requires { ⌜ formed (partOf part) (now s) ≡ true ⌝ }
+    ensures { λ r. ⌜ Loaded (partOf part) (now (s .entry)) r ⌝ }
+{
+    let n = laid_out(part).ports as usize;
+    PinSets {
+        output: word(s, 0, n),
+        configuration: word(s, n, n),
+        kind: ports::spread(s[2 * n]),
+        flip: word(s, 2 * n + 1, n),
+    }
+}
+
+// The pins in the middle of the plan: the port kinds of the goal, the pins' own kinds of the start.
+fn middle(s: PinSets, g: PinSets) -> PinSets
+    ensures { λ m. ⌜ Halfway s g m ⌝ }
+{
+    PinSets {
         output: planner_bytes::mid_output(s, g),
         configuration: planner_bytes::mid_configuration(s, g),
+        kind: g.kind,
+        flip: s.flip,
     }
 }
 
-// What each of the sixteen writes finds.
-fn was_of(s: &[u8], a: Middle, b: Middle, c: Middle) -> [u8; 16]
-    requires { ⌜ length (now s) ≡ 10 ⌝ }
-    ensures { λ r. ⌜ r ≡ wasOf (now (s .entry)) a b c ⌝ }
+// Port k's output and configuration from one pin set to another, behind n writes; how many there are then.
+fn turn_port(part: u64, k: u8, a: PinSets, b: PinSets, n: usize, buf: &mut [u8]) -> usize
+    requires { ⌜ (k < partOf part .ports) × (2 * n + 4 ≤ length (now buf)) ⌝ }
+    ensures { λ r. ⌜ ((out before : List ℕ) → Emitted out n before (now (buf .entry)) → Emitted (turnPairs (partOf part) a b k out) r before (now (buf .exit)))
+        × (r ≤ n + 2) ⌝ }
 {
-    [
-        s[0],
-        s[3],
-        s[1],
-        s[4],
-        s[2],
-        s[5],
-        s[KINDS_AT],
-        s[7],
-        a.output,
-        a.configuration,
-        s[8],
-        b.output,
-        b.configuration,
-        s[9],
-        c.output,
-        c.configuration,
-    ]
+    let l = laid_out(part);
+    let o = planner_pairs::put(
+        buf,
+        n,
+        l.output + k,
+        ports::byte_of(a.output, k),
+        ports::byte_of(b.output, k),
+    );
+    planner_pairs::put(
+        buf,
+        o,
+        l.configuration + k,
+        ports::byte_of(a.configuration, k),
+        ports::byte_of(b.configuration, k),
+    )
 }
 
-// What each of them writes.
-fn to_of(g: &[u8], a: Middle, b: Middle, c: Middle) -> [u8; 16]
-    requires { ⌜ length (now g) ≡ 10 ⌝ }
-    ensures { λ r. ⌜ r ≡ toOf (now (g .entry)) a b c ⌝ }
+// Every port to the middle.
+fn open_ports(part: u64, s: PinSets, m: PinSets, buf: &mut [u8]) -> usize
+    requires { ⌜ roomFor (partOf part) ≤ length (now buf) ⌝ }
+    ensures { λ r. ⌜ Emitted (opensTo (partOf part) s m (partOf part .ports)) r (now (buf .entry)) (now (buf .exit)) × (r ≤ 2 * partOf part .ports) ⌝ }
 {
-    [
-        a.output,
-        a.configuration,
-        b.output,
-        b.configuration,
-        c.output,
-        c.configuration,
-        g[KINDS_AT],
-        g[7],
-        g[0],
-        g[3],
-        g[8],
-        g[1],
-        g[4],
-        g[9],
-        g[2],
-        g[5],
-    ]
+    let ports = laid_out(part).ports;
+    let mut n = 0;
+    let mut k = 0u8;
+    while k < ports {
+        n = turn_port(part, k, s, m, n, buf);
+        k += 1;
+    }
+    n
 }
 
-// The registers of the sixteen writes: to the middle port by port, the port kind, to the goal port by port.
-const REGISTERS: [u8; 16] = [
-    map::OUTPUT24_0,
-    map::CONFIGURATION24_0,
-    map::OUTPUT24_1,
-    map::CONFIGURATION24_1,
-    map::OUTPUT24_2,
-    map::CONFIGURATION24_2,
-    map::PORT_KIND24,
-    map::PIN_KIND24_0,
-    map::OUTPUT24_0,
-    map::CONFIGURATION24_0,
-    map::PIN_KIND24_1,
-    map::OUTPUT24_1,
-    map::CONFIGURATION24_1,
-    map::PIN_KIND24_2,
-    map::OUTPUT24_2,
-    map::CONFIGURATION24_2,
-];
-
-// Lays the plan at the start of the buffer; the number of its writes.
-pub fn lay(start: &[u8], goal: &[u8], buf: &mut [u8]) -> usize
-    requires { ⌜ Ready (now start) (now goal) (now buf) ⌝ }
-    ensures { λ r. ⌜ Planted (now (start .entry)) (now (goal .entry)) r (now (buf .entry)) (now (buf .exit)) ⌝ }
+// Port k to the goal: pin kinds, output, configuration.
+fn close_port(part: u64, k: u8, m: PinSets, g: PinSets, n: usize, buf: &mut [u8]) -> usize
+    requires { ⌜ (k < partOf part .ports) × (2 * n + 6 ≤ length (now buf)) ⌝ }
+    ensures { λ r. ⌜ ((out before : List ℕ) → Emitted out n before (now (buf .entry)) → Emitted (closePairs (partOf part) m g k out) r before (now (buf .exit)))
+        × (r ≤ n + 3) ⌝ }
 {
-    let a = mid_port(start, goal, 0);
-    let b = mid_port(start, goal, 1);
-    let c = mid_port(start, goal, 2);
-    let was = was_of(start, a, b, c);
-    let to = to_of(goal, a, b, c);
-    let regs = REGISTERS;
-    planner_pairs::emit(&regs, &was, &to, buf)
+    let l = laid_out(part);
+    let f = planner_pairs::put(
+        buf,
+        n,
+        l.flip + k,
+        ports::byte_of(m.flip, k),
+        ports::byte_of(g.flip, k),
+    );
+    turn_port(part, k, m, g, f, buf)
 }
 
-// The plan from the start to the goal, at the start of the buffer.
+// Every port to the goal, behind the writes that there are.
+fn close_ports(part: u64, m: PinSets, g: PinSets, from: usize, buf: &mut [u8]) -> usize
+    requires { ⌜ (from ≤ 2 * partOf part .ports + 1) × (roomFor (partOf part) ≤ length (now buf)) ⌝ }
+    ensures { λ r. ⌜ ((out before : List ℕ) → Emitted out from before (now (buf .entry))
+        → Emitted (closesTo (partOf part) m g out (partOf part .ports)) r before (now (buf .exit))) ⌝ }
+{
+    let ports = laid_out(part).ports;
+    let mut n = from;
+    let mut k = 0u8;
+    while k < ports {
+        n = close_port(part, k, m, g, n, buf);
+        k += 1;
+    }
+    n
+}
+
+// The plan of the 24-pin part from the start to the goal, at the start of the buffer.
 pub fn plan(start: &[u8], goal: &[u8], buf: &mut [u8]) -> Planned
-    ensures exact { λ r. ⌜ Answers r (now (buf .entry)) (now (buf .exit)) (answerOf (now (start .entry)) (now (goal .entry)) (length (now (buf .entry)))) ⌝ }
-    ensures promise { λ r. ⌜ Promise (now (start .entry)) (now (goal .entry)) (now (buf .entry)) (now (buf .exit)) (refusalOf r) (countOf r) ⌝ }
+    ensures exact { λ r. ⌜ Answers r (now (buf .entry)) (now (buf .exit)) (answerOf part24 (now (start .entry)) (now (goal .entry)) (length (now (buf .entry)))) ⌝ }
+    ensures promise { λ r. ⌜ Promise part24 (now (start .entry)) (now (goal .entry)) (now (buf .entry)) (now (buf .exit)) (refusalOf r) (countOf r) ⌝ }
 {
-    if !is_formed(start) {
-        return Planned::Refused(BAD_SETTING);
+    let number = refused_early(PART24, start, goal, buf.len(), Device::plan_room());
+    if number != 0 {
+        return Planned::Refused(number);
     }
-    if !is_formed(goal) {
-        return Planned::Refused(BAD_SETTING);
-    }
-    if buf.len() < Device::plan_room() {
-        return Planned::Refused(BUFFER_SMALL);
-    }
-    if is_blocked(start, goal) {
+    let s = load(PART24, start);
+    let g = load(PART24, goal);
+    if planner_bytes::stuck_in(s, g) != 0 {
         return Planned::Refused(NO_QUIET_WAY);
     }
-    Planned::Writes(lay(start, goal, buf))
+    let m = middle(s, g);
+    let opened = open_ports(PART24, s, m, buf);
+    let turned = planner_pairs::put(buf, opened, LAYOUT24.kind, start[6], goal[6]);
+    Planned::Writes(close_ports(PART24, m, g, turned, buf))
+}
+
+// The plan of its sister.
+pub fn plan34(start: &[u8], goal: &[u8], buf: &mut [u8]) -> Planned
+    ensures exact { λ r. ⌜ Answers r (now (buf .entry)) (now (buf .exit)) (answerOf part34 (now (start .entry)) (now (goal .entry)) (length (now (buf .entry)))) ⌝ }
+    ensures promise { λ r. ⌜ Promise part34 (now (start .entry)) (now (goal .entry)) (now (buf .entry)) (now (buf .exit)) (refusalOf r) (countOf r) ⌝ }
+{
+    let number = refused_early(PART34, start, goal, buf.len(), PLAN_ROOM34);
+    if number != 0 {
+        return Planned::Refused(number);
+    }
+    let s = load(PART34, start);
+    let g = load(PART34, goal);
+    if planner_bytes::stuck_in(s, g) != 0 {
+        return Planned::Refused(NO_QUIET_WAY);
+    }
+    let m = middle(s, g);
+    let opened = open_ports(PART34, s, m, buf);
+    let turned = planner_pairs::put(buf, opened, LAYOUT34.kind, start[10], goal[10]);
+    Planned::Writes(close_ports(PART34, m, g, turned, buf))
+}
+
+fn stuck_over(part: u64, start: &[u8], goal: &[u8]) -> u64
+    ensures { λ r. ⌜ r ≡ cond (formed (partOf part) (now (start .entry)) && formed (partOf part) (now (goal .entry)))
+        (tabulate (partOf part .width) (λ i. stuck (bitsAt (partOf part) (now (start .entry)) i) (bitsAt (partOf part) (now (goal .entry)) i))) 0 ⌝ }
+{
+    let both = is_formed(part, start) & is_formed(part, goal);
+    if !both {
+        return 0;
+    }
+    planner_bytes::stuck_in(load(part, start), load(part, goal))
 }
 
 // The pins that are stuck, for whoever explains a refusal 4; none where a start or goal is malformed.
 pub fn stuck_pins(start: &[u8], goal: &[u8]) -> u64
-    ensures { λ r. ⌜ r ≡ cond (formed (now (start .entry)) && formed (now (goal .entry)))
-        (tabulate 24 (λ i. stuck (bitsOf shape24 (now (start .entry)) (i / 8) (i % 8)) (bitsOf shape24 (now (goal .entry)) (i / 8) (i % 8)))) 0 ⌝ }
+    ensures { λ r. ⌜ r ≡ cond (formed part24 (now (start .entry)) && formed part24 (now (goal .entry)))
+        (tabulate 24 (λ i. stuck (bitsAt part24 (now (start .entry)) i) (bitsAt part24 (now (goal .entry)) i))) 0 ⌝ }
 {
-    let both = is_formed(start) & is_formed(goal);
-    if !both {
-        return 0;
-    }
-    let a = port_stuck(start, goal, 0);
-    let b = port_stuck(start, goal, 1);
-    let c = port_stuck(start, goal, 2);
-    ports::join3(a, b, c)
+    stuck_over(PART24, start, goal)
+}
+
+// Those of its sister.
+pub fn stuck_pins34(start: &[u8], goal: &[u8]) -> u64
+    ensures { λ r. ⌜ r ≡ cond (formed part34 (now (start .entry)) && formed part34 (now (goal .entry)))
+        (tabulate 34 (λ i. stuck (bitsAt part34 (now (start .entry)) i) (bitsAt part34 (now (goal .entry)) i))) 0 ⌝ }
+{
+    stuck_over(PART34, start, goal)
 }

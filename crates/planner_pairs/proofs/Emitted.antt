@@ -34,10 +34,13 @@ laid-pair out before n r v h room =
     two : drop (2 * n) before ≡ x ∷ y ∷ rest
     two = drop-cons before (2 * n) 0 (omega arith) ∙ ap (λ (l : List ℕ). x ∷ l) (drop-cons before (suc (2 * n)) 0 (omega arith))
 
+-- the buffer keeps its length
+pub same-room : (out before b : List ℕ) (n : ℕ) → Emitted out n before b → length b ≡ length before
+same-room out before b n d = ap length (d .laid) ∙ length-append out (drop (2 * n) before) ∙ omega (arith, d .pairs, d .within, length-drop (2 * n) before)
+
 module _ (out before b : List ℕ) (n r was to : ℕ) (d : Emitted out n before b) where
-  -- the buffer keeps its length
   room : length b ≡ length before
-  room = ap length (d .laid) ∙ length-append out (drop (2 * n) before) ∙ omega (arith, d .pairs, d .within, length-drop (2 * n) before)
+  room = same-room out before b n d
 
   pub skip : was ≡ to → Emitted (out ++ pairOf r was to) n before b
   skip e = record {

@@ -44,11 +44,11 @@ module _ (p : Shape) (ok : Regular p) where
       ap (λ (ws : List Write). fourOf p (run p s ws) k) (sym (append-nil us)) ∙ waits p ok k j hk us a (end p ok k j hk (fourOf p s k)) .goes s l refl .1
 
   module _ (start goal : Settings) (ds : Sound p start) (dg : Sound p goal) where
-    abbrev opens : ℕ → List Write
+    abbrev pub opens : ℕ → List Write
     opens k = perPort k (opening p start goal)
 
     -- to the port kinds and back again through the first k ports
-    abbrev upTo : ℕ → List Write
+    abbrev pub upTo : ℕ → List Write
     upTo k = opens (p .ports) ++ toGoal p goal (2 * p .ports) ∷ perPort k (closing p goal)
 
     room-of : {r w x : ℕ} → r ≡ w → x < 2 ^ w → x < 2 ^ r

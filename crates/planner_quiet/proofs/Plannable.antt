@@ -2,7 +2,7 @@
 use mathlib.Core.Path.{_≡_, refl, sym, ap, ap₂, subst, _∙_}
 use mathlib.Core.Bool.{Bool, true, false, cond}
 use mathlib.Core.List.{List, [], _∷_}
-use Prim.Native.Nat.{ℕ, suc, _+_, _*_, _/_, _%_, _^_, _<_}
+use Prim.Native.Nat.{ℕ, zero, suc, _+_, _*_, _/_, _%_, _^_, _<_}
 use native.Mathlib.Nat.{min-le-left}
 use native.Mathlib.Omega.{arith}
 use borrow.Author.Tests.{eqb-true, ltb-true}
@@ -10,7 +10,7 @@ use lib.Arith.{digits-div, digits-mod}
 use lib.Dec.{eqb, ltb}
 use lib.ListN.{getD, length}
 use Rattle.bits.proofs.Decide.{each, eachBool}
-use Rattle.map.specs.Map.{Part, Kind, part24, part34, firstOf, kindAt, roomAt, keptIn, fitting, fittingAt}
+use Rattle.map.specs.Map.{Part, Kind, part24, part34, partOf, firstOf, kindAt, roomAt, keptIn, fitting, fittingAt}
 use Rattle.map.specs.Map.Kind.{Reserved, Input, Status, InputStatus, Configuration, Latch, Mask, PortKind, Edge, Clear, Output, Polarity, PinKind, Stored}
 use Rattle.registers.specs.Registers.{keptAs}
 use Rattle.registers.proofs.Pinwise.{Mapped, mapped24, mapped34}
@@ -46,6 +46,8 @@ keptAt p n v = keptIn p n (keptAs p (kindAt p n) v)
 pub record Plannable (p : Part) : Type 0 where
   pub mapped : Mapped p
   pub regular : Regular (shapeOf p)
+  -- the last port has a pin
+  pub reaching : 8 * p .ports < p .width + 8
   pub small : (q : ℕ) → q < length (registersOf p) → ltb (numberAt p q) 128 ≡ true
   pub kinds : (q : ℕ) → q < length (registersOf p) → planned (kindAt p (numberAt p q)) ≡ true
   -- of a byte the bits that exist are stored, and a byte may stand there that has no other: m is 256 times q and the byte
@@ -74,6 +76,7 @@ plannable24 = record {
     room-kinds = refl;
     room-pin-kind = each 3 _ _ tt;
   };
+  reaching = omega arith;
   small = eachBool 10 _ _ tt;
   kinds = eachBool 10 _ _ tt;
   keeps = each 2560 _ _ tt;
@@ -100,6 +103,7 @@ plannable34 = record {
     room-kinds = refl;
     room-pin-kind = each 5 _ _ tt;
   };
+  reaching = omega arith;
   small = eachBool 16 _ _ tt;
   kinds = eachBool 16 _ _ tt;
   keeps = each 4096 _ _ tt;
@@ -110,6 +114,11 @@ plannable34 = record {
   at-pin-kinds = each 5 _ _ tt;
   zero-fits = eachBool 128 _ _ tt;
 }
+
+-- of both, by the part's number
+pub plannable : (n : ℕ) → Plannable (partOf n)
+plannable zero = plannable24
+plannable (suc n) = plannable34
 
 -- ---- of a register of the setting, by its number
 found : (xs : List ℕ) (r : ℕ) → place xs r < length xs → getD xs (place xs r) 0 ≡ r
