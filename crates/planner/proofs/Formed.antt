@@ -7,7 +7,6 @@ use native.Mathlib.Omega.{arith}
 use borrow.Author.Tests.{eq-eqb, ne-eqb, eqb-true, eqb-false, lt-ltb, ltb-true, ltb-false, leb-true, le-leb}
 use lib.Dec.{eqb, ltb, leb}
 use lib.ListN.{getD, length}
-use Rattle.bits.proofs.Decide.{clash}
 use Rattle.map.specs.Map.{Part}
 use Rattle.planner_quiet.specs.Settings.{registersOf, shapeOf}
 use Rattle.planner_quiet.proofs.Blocked.{both}

@@ -1,11 +1,11 @@
 -- What the code lays, port by port, is the plan; and the set of stuck pins says whether there is one. Assumes nothing.
-use mathlib.Core.Path.{_≡_, refl, sym, ap, ap₂, subst, _∙_}
+use mathlib.Core.Path.{_≡_, refl, sym, ap, ap₂, _∙_}
 use mathlib.Core.Bool.{Bool, true, false, cond, not}
 use mathlib.Core.List.{List, [], _∷_, _++_, append-assoc, append-nil}
 use Prim.Native.Nat.{ℕ, zero, suc, _+_, _-_, _*_, _/_, _%_, _^_, _≤_, _<_, min}
 use native.Mathlib.Nat.{mod-lt, div-add-mod'}
 use native.Mathlib.Omega.{arith}
-use borrow.Author.Tests.{ltb-true, ltb-false, eqb-true, ne-eqb}
+use borrow.Author.Tests.{ltb-true, ltb-false, ne-eqb}
 use lib.Dec.{eqb, ltb}
 use lib.ListN.{getD, length, drop}
 use Rattle.bits.specs.Bits.{bit, tabulate, some}
@@ -15,7 +15,7 @@ use Rattle.pins.specs.Pin.{drive, isHigh, openDrain}
 use Rattle.ports.specs.Ports.{byteOf}
 use Rattle.map.specs.Map.{Part, firstOf}
 use Rattle.map.specs.Map.Kind.{Output, Configuration, PortKind, PinKind}
-use Rattle.planner_quiet.specs.Settings.{shapeOf, Settings, PinBits, Write, bitsOf}
+use Rattle.planner_quiet.specs.Settings.{shapeOf, Settings, PinBits, Write}
 use Rattle.planner_quiet.specs.Order.{Sound, stuck, blocked}
 use Rattle.planner_quiet.specs.Quiet.{bitsAt}
 use Rattle.planner_quiet.specs.Route.{midOutput, midConfiguration, midOutputs, midConfigurations, needed, planOf}

@@ -1,6 +1,6 @@
 -- The bytes of a group as a pin set, and a setting as four of them. Assumes nothing.
 use mathlib.Core.Path.{_≡_, refl, sym, ap, subst, _∙_}
-use mathlib.Core.Bool.{true, false}
+use mathlib.Core.Bool.{true}
 use mathlib.Core.List.{List}
 use Prim.Native.Nat.{ℕ, zero, suc, _+_, _-_, _*_, _/_, _^_, _≤_, _<_}
 use native.Mathlib.Omega.{arith}
@@ -11,7 +11,6 @@ use Rattle.bits.specs.Bits.{bit, join}
 use Rattle.bits.proofs.Join.{bit-join, join-lt}
 use Rattle.bits.proofs.Laws.{bit-high}
 use Rattle.map.specs.Map.{Part}
-use Rattle.planner_quiet.specs.Settings.{shapeOf}
 use Rattle.planner_quiet.proofs.Plannable.{Plannable}
 use Rattle.planner_promise.specs.Formed.{formed}
 use Rattle.planner_promise.proofs.Answering.{sound}

@@ -9,8 +9,7 @@ use native.Mathlib.Omega.{arith}
 use lib.Dec.{eqb}
 use lib.ListN.{take}
 use borrow.Author.Tests.{not-true, eqb-true, eqb-false}
-use Rattle.bits.proofs.Decide.{eachBool}
-use Rattle.map.specs.Map.{part24, kindAt, reserved}
+use Rattle.map.specs.Map.{Part, reserved}
 use Rattle.registers.specs.Registers.{Core, written}
 use Rattle.device_rules.specs.Device.{State, goes}
 use Rattle.device_rules.specs.Device.Bus.{Opened, Chosen}
@@ -19,160 +18,160 @@ use Rattle.device_rules.specs.declared.Answer.the-variants.{Nothing, Ack}
 use Rattle.device_rules.specs.Refusals.{stepped}
 use Rattle.device_demands.specs.Run.{Asked, after, answers}
 use Rattle.device_demands.specs.Transactions.{START, sent, toWrite, writeOver, writtenFrom}
-use Rattle.device_demands.proofs.Lawful.{lawful24}
+use Rattle.device_demands.proofs.Lawful.{Lawful}
 use Rattle.device_demands.proofs.Keeps.{WellFormed, run-keeps}
 use Rattle.device_demands.proofs.Transacting.{on, ended, start, to-write, filling, command, fills, data-byte, bus-writes, bus-writes-answers}
 use Rattle.planner_quiet.specs.Settings.{Settings, Write}
 use Rattle.planner_quiet.specs.Quiet.{Still, Quiet, Formed, writes, afterFirst, isPlanned, Listed, settingsOf, driveAt, inputAt, statusAt}
 use Rattle.planner_overbus.specs.OverBus.{overBus, afterEvents, allTaken, QuietOverBus}
-use Rattle.planner_quiet.proofs.Lift.{tens}
+use Rattle.planner_quiet.proofs.Plannable.{Plannable, of-each}
 
--- a run of two lists is the second from where the first leads
-in-turn : (s : State) (es fs : List Asked) → after part24 s (es ++ fs) ≡ after part24 (after part24 s es) fs
-unfolding after
-in-turn s [] fs = refl
-in-turn s (e ∷ es) fs = in-turn (stepped part24 s (e .kind) (e .arg) .after) es fs
+module _ (p : Part) (law : Lawful p) (ok : Plannable p) where
+  -- a run of two lists is the second from where the first leads
+  in-turn : (s : State) (es fs : List Asked) → after p s (es ++ fs) ≡ after p (after p s es) fs
+  unfolding after
+  in-turn s [] fs = refl
+  in-turn s (e ∷ es) fs = in-turn (stepped p s (e .kind) (e .arg) .after) es fs
 
-answers-in-turn : (s : State) (es fs : List Asked) → answers part24 s (es ++ fs) ≡ answers part24 s es ++ answers part24 (after part24 s es) fs
-unfolding after answers
-answers-in-turn s [] fs = refl
-answers-in-turn s (e ∷ es) fs = ap (λ (l : List Answer). stepped part24 s (e .kind) (e .arg) .answer ∷ l) (answers-in-turn (stepped part24 s (e .kind) (e .arg) .after) es fs)
+  answers-in-turn : (s : State) (es fs : List Asked) → answers p s (es ++ fs) ≡ answers p s es ++ answers p (after p s es) fs
+  unfolding after answers
+  answers-in-turn s [] fs = refl
+  answers-in-turn s (e ∷ es) fs = ap (λ (l : List Answer). stepped p s (e .kind) (e .arg) .answer ∷ l) (answers-in-turn (stepped p s (e .kind) (e .arg) .after) es fs)
 
--- none of the ten is reserved
-planned-known : (r : ℕ) → isPlanned r → reserved part24 r ≡ false
-unfolding reserved kindAt
-planned-known r h = not-true (reserved part24 r) (tens (λ n. not (reserved part24 n)) (eachBool 10 _ _ tt) r h)
+  -- none of a setting's registers is reserved
+  planned-known : (r : ℕ) → isPlanned p r → reserved p r ≡ false
+  planned-known r h = not-true (reserved p r) (of-each p ok r h (λ n. not (reserved p n)) (ok .known))
 
-none : {A : Type 0} (t : ℕ) → take {A = A} t [] ≡ []
-none zero = refl
-none (suc t) = refl
+  none : {A : Type 0} (t : ℕ) → take {A = A} t [] ≡ []
+  none zero = refl
+  none (suc t) = refl
 
--- ---- one write's transaction
-module _ (s : State) (g : WellFormed part24 s) (w : Write) (h : isPlanned (w .register)) (v : w .value < 256) where
-  -- the device after it
-  abbrev pub next : State
-  next = after part24 s (writeOver (s .choice) (w .register) (w .value))
+  -- ---- one write's transaction
+  module _ (s : State) (g : WellFormed p s) (w : Write) (h : isPlanned p (w .register)) (v : w .value < 256) where
+    -- the device after it
+    abbrev pub next : State
+    next = after p s (writeOver (s .choice) (w .register) (w .value))
 
-  known : reserved part24 (w .register) ≡ false
-  known = planned-known (w .register) h
+    known : reserved p (w .register) ≡ false
+    known = planned-known (w .register) h
 
-  pub kept : WellFormed part24 next
-  kept = run-keeps part24 lawful24 s g (writeOver (s .choice) (w .register) (w .value))
+    pub kept : WellFormed p next
+    kept = run-keeps p law s g (writeOver (s .choice) (w .register) (w .value))
 
-  pub done : next .regs ≡ written part24 (s .regs) (w .register) (w .value)
-  unfolding writtenFrom
-  done = ap (λ (x : State). x .regs) (bus-writes part24 lawful24 s g (w .register) known (w .value ∷ []) (v, tt))
+    pub done : next .regs ≡ written p (s .regs) (w .register) (w .value)
+    unfolding writtenFrom
+    done = ap (λ (x : State). x .regs) (bus-writes p law s g (w .register) known (w .value ∷ []) (v, tt))
 
-  pub there : next .choice ≡ s .choice
-  there = ap (λ (x : State). x .choice) (bus-writes part24 lawful24 s g (w .register) known (w .value ∷ []) (v, tt))
+    pub there : next .choice ≡ s .choice
+    there = ap (λ (x : State). x .choice) (bus-writes p law s g (w .register) known (w .value ∷ []) (v, tt))
 
-  -- what follows it goes on from there
-  pub then-on : (rest : ℕ → List Asked) → after part24 s (writeOver (s .choice) (w .register) (w .value) ++ rest (s .choice)) ≡ after part24 next (rest (next .choice))
-  then-on rest = in-turn s (writeOver (s .choice) (w .register) (w .value)) (rest (s .choice)) ∙ ap (λ (c : ℕ). after part24 next (rest c)) (sym there)
+    -- what follows it goes on from there
+    pub then-on : (rest : ℕ → List Asked) → after p s (writeOver (s .choice) (w .register) (w .value) ++ rest (s .choice)) ≡ after p next (rest (next .choice))
+    then-on rest = in-turn s (writeOver (s .choice) (w .register) (w .value)) (rest (s .choice)) ∙ ap (λ (c : ℕ). after p next (rest c)) (sym there)
 
-  pub answers-on : (rest : ℕ → List Asked)
-      → answers part24 s (writeOver (s .choice) (w .register) (w .value) ++ rest (s .choice)) ≡ Nothing ∷ Ack ∷ Ack ∷ Ack ∷ Nothing ∷ answers part24 next (rest (next .choice))
-  answers-on rest =
-      answers-in-turn s (writeOver (s .choice) (w .register) (w .value)) (rest (s .choice))
-      ∙ ap₂ (λ (a b : List Answer). a ++ b) (bus-writes-answers part24 lawful24 s g (w .register) known (w .value ∷ []) (v, tt)) (ap (λ (c : ℕ). answers part24 next (rest c)) (sym there))
+    pub answers-on : (rest : ℕ → List Asked)
+        → answers p s (writeOver (s .choice) (w .register) (w .value) ++ rest (s .choice)) ≡ Nothing ∷ Ack ∷ Ack ∷ Ack ∷ Nothing ∷ answers p next (rest (next .choice))
+    answers-on rest =
+        answers-in-turn s (writeOver (s .choice) (w .register) (w .value)) (rest (s .choice))
+        ∙ ap₂ (λ (a b : List Answer). a ++ b) (bus-writes-answers p law s g (w .register) known (w .value ∷ []) (v, tt)) (ap (λ (c : ℕ). answers p next (rest c)) (sym there))
 
-  -- in the middle of it: nothing before the data byte, all of it then
-  abbrev first : ℕ → Core
-  first m = after part24 s (take m (writeOver (s .choice) (w .register) (w .value))) .regs
+    -- in the middle of it: nothing before the data byte, all of it then
+    abbrev first : ℕ → Core
+    first m = after p s (take m (writeOver (s .choice) (w .register) (w .value))) .regs
 
-  pub at-0 : first 0 ≡ s .regs
-  at-0 = ap (λ (x : State). x .regs) (ended part24 s)
+    pub at-0 : first 0 ≡ s .regs
+    at-0 = ap (λ (x : State). x .regs) (ended p s)
 
-  pub at-1 : first 1 ≡ s .regs
-  at-1 = ap (λ (x : State). x .regs) (on part24 s START [] _ (start part24 lawful24 s g) ∙ ended part24 _)
+    pub at-1 : first 1 ≡ s .regs
+    at-1 = ap (λ (x : State). x .regs) (on p s START [] _ (start p law s g) ∙ ended p _)
 
-  pub at-2 : first 2 ≡ s .regs
-  at-2 = ap (λ (x : State). x .regs) (on part24 s START _ _ (start part24 lawful24 s g) ∙ on part24 (goes s Opened) (toWrite (s .choice)) [] _ (to-write part24 lawful24 s g) ∙ ended part24 _)
+    pub at-2 : first 2 ≡ s .regs
+    at-2 = ap (λ (x : State). x .regs) (on p s START _ _ (start p law s g) ∙ on p (goes s Opened) (toWrite (s .choice)) [] _ (to-write p law s g) ∙ ended p _)
 
-  pub at-3 : first 3 ≡ s .regs
-  at-3 =
-      ap (λ (x : State). x .regs)
-      (on part24 s START _ _ (start part24 lawful24 s g) ∙ on part24 (goes s Opened) (toWrite (s .choice)) _ _ (to-write part24 lawful24 s g) ∙ on part24 (goes s Chosen) (sent (w .register)) [] _ (command part24 lawful24 s g (w .register) known) ∙ ended part24 _)
+    pub at-3 : first 3 ≡ s .regs
+    at-3 =
+        ap (λ (x : State). x .regs)
+        (on p s START _ _ (start p law s g) ∙ on p (goes s Opened) (toWrite (s .choice)) _ _ (to-write p law s g) ∙ on p (goes s Chosen) (sent (w .register)) [] _ (command p law s g (w .register) known) ∙ ended p _)
 
-  pub at-4 : first 4 ≡ written part24 (s .regs) (w .register) (w .value)
-  at-4 =
-      ap (λ (x : State). x .regs)
-      (on part24 s START _ _ (start part24 lawful24 s g) ∙ on part24 (goes s Opened) (toWrite (s .choice)) _ _ (to-write part24 lawful24 s g) ∙ on part24 (goes s Chosen) (sent (w .register)) _ _ (command part24 lawful24 s g (w .register) known)
-      ∙ on part24 (filling part24 lawful24 s g (w .register)) (sent (w .value)) [] _ (data-byte part24 lawful24 (filling part24 lawful24 s g (w .register)) (fills part24 lawful24 s g (w .register) known) refl (w .value) v) ∙ ended part24 _)
+    pub at-4 : first 4 ≡ written p (s .regs) (w .register) (w .value)
+    at-4 =
+        ap (λ (x : State). x .regs)
+        (on p s START _ _ (start p law s g) ∙ on p (goes s Opened) (toWrite (s .choice)) _ _ (to-write p law s g) ∙ on p (goes s Chosen) (sent (w .register)) _ _ (command p law s g (w .register) known)
+        ∙ on p (filling p law s g (w .register)) (sent (w .value)) [] _ (data-byte p law (filling p law s g (w .register)) (fills p law s g (w .register) known) refl (w .value) v) ∙ ended p _)
 
--- ---- the list: registers and pins after the transactions are those after the writes
-over-bus : (s : State) → WellFormed part24 s → (ws : List Write) → Listed ws → after part24 s (overBus (s .choice) ws) .regs ≡ writes (s .regs) ws
-over-bus s g [] l = ap (λ (x : State). x .regs) (ended part24 s)
-over-bus s g (w ∷ ws) l =
-    ap (λ (x : State). x .regs) (then-on s g w (l .0) (l .1) (λ c. overBus c ws))
-    ∙ over-bus (next s g w (l .0) (l .1)) (kept s g w (l .0) (l .1)) ws (l .2) ∙ ap (λ (r : Core). writes r ws) (done s g w (l .0) (l .1))
+  -- ---- the list: registers and pins after the transactions are those after the writes
+  over-bus : (s : State) → WellFormed p s → (ws : List Write) → Listed p ws → after p s (overBus (s .choice) ws) .regs ≡ writes p (s .regs) ws
+  over-bus s g [] l = ap (λ (x : State). x .regs) (ended p s)
+  over-bus s g (w ∷ ws) l =
+      ap (λ (x : State). x .regs) (then-on s g w (l .0) (l .1) (λ c. overBus c ws))
+      ∙ over-bus (next s g w (l .0) (l .1)) (kept s g w (l .0) (l .1)) ws (l .2) ∙ ap (λ (r : Core). writes p r ws) (done s g w (l .0) (l .1))
 
-over-bus-answers : (s : State) → WellFormed part24 s → (ws : List Write) → Listed ws → answers part24 s (overBus (s .choice) ws) ≡ allTaken ws
-unfolding answers
-over-bus-answers s g [] l = refl
-over-bus-answers s g (w ∷ ws) l =
-    answers-on s g w (l .0) (l .1) (λ c. overBus c ws)
-    ∙ ap (λ (a : List Answer). Nothing ∷ Ack ∷ Ack ∷ Ack ∷ Nothing ∷ a) (over-bus-answers (next s g w (l .0) (l .1)) (kept s g w (l .0) (l .1)) ws (l .2))
+  over-bus-answers : (s : State) → WellFormed p s → (ws : List Write) → Listed p ws → answers p s (overBus (s .choice) ws) ≡ allTaken ws
+  unfolding answers
+  over-bus-answers s g [] l = refl
+  over-bus-answers s g (w ∷ ws) l =
+      answers-on s g w (l .0) (l .1) (λ c. overBus c ws)
+      ∙ ap (λ (a : List Answer). Nothing ∷ Ack ∷ Ack ∷ Ack ∷ Nothing ∷ a) (over-bus-answers (next s g w (l .0) (l .1)) (kept s g w (l .0) (l .1)) ws (l .2))
 
-five : (m : ℕ) → (suc (suc (suc (suc (suc m)))) + 1) / 5 ≡ suc ((m + 1) / 5)
-five m = omega arith
+  five : (m : ℕ) → (suc (suc (suc (suc (suc m)))) + 1) / 5 ≡ suc ((m + 1) / 5)
+  five m = omega arith
 
--- after the first m events of the transactions: as after the first (m + 1) / 5 writes
-pub over-bus-throughout : (s : State) → WellFormed part24 s → (ws : List Write) → Listed ws → (m : ℕ) → afterEvents s ws m ≡ afterFirst (s .regs) ws ((m + 1) / 5)
-over-bus-throughout s g [] l m =
-    ap (λ (es : List Asked). after part24 s es .regs) (none m) ∙ ap (λ (x : State). x .regs) (ended part24 s)
-    ∙ sym (ap (λ (ws : List Write). writes (s .regs) ws) (none ((m + 1) / 5)))
-over-bus-throughout s g (w ∷ ws) l zero = at-0 s g w (l .0) (l .1)
-over-bus-throughout s g (w ∷ ws) l (suc zero) = at-1 s g w (l .0) (l .1)
-over-bus-throughout s g (w ∷ ws) l (suc (suc zero)) = at-2 s g w (l .0) (l .1)
-over-bus-throughout s g (w ∷ ws) l (suc (suc (suc zero))) = at-3 s g w (l .0) (l .1)
-over-bus-throughout s g (w ∷ ws) l (suc (suc (suc (suc zero)))) = at-4 s g w (l .0) (l .1)
-over-bus-throughout s g (w ∷ ws) l (suc (suc (suc (suc (suc m))))) =
-    ap (λ (x : State). x .regs) (then-on s g w (l .0) (l .1) (λ c. take m (overBus c ws)))
-    ∙ over-bus-throughout (next s g w (l .0) (l .1)) (kept s g w (l .0) (l .1)) ws (l .2) m
-    ∙ ap (λ (r : Core). afterFirst r ws ((m + 1) / 5)) (done s g w (l .0) (l .1))
-    ∙ ap (λ (n : ℕ). afterFirst (s .regs) (w ∷ ws) n) (sym (five m))
+  -- after the first m events of the transactions: as after the first (m + 1) / 5 writes
+  pub over-bus-throughout : (s : State) → WellFormed p s → (ws : List Write) → Listed p ws → (m : ℕ) → afterEvents p s ws m ≡ afterFirst p (s .regs) ws ((m + 1) / 5)
+  over-bus-throughout s g [] l m =
+      ap (λ (es : List Asked). after p s es .regs) (none m) ∙ ap (λ (x : State). x .regs) (ended p s)
+      ∙ sym (ap (λ (ws : List Write). writes p (s .regs) ws) (none ((m + 1) / 5)))
+  over-bus-throughout s g (w ∷ ws) l zero = at-0 s g w (l .0) (l .1)
+  over-bus-throughout s g (w ∷ ws) l (suc zero) = at-1 s g w (l .0) (l .1)
+  over-bus-throughout s g (w ∷ ws) l (suc (suc zero)) = at-2 s g w (l .0) (l .1)
+  over-bus-throughout s g (w ∷ ws) l (suc (suc (suc zero))) = at-3 s g w (l .0) (l .1)
+  over-bus-throughout s g (w ∷ ws) l (suc (suc (suc (suc zero)))) = at-4 s g w (l .0) (l .1)
+  over-bus-throughout s g (w ∷ ws) l (suc (suc (suc (suc (suc m))))) =
+      ap (λ (x : State). x .regs) (then-on s g w (l .0) (l .1) (λ c. take m (overBus c ws)))
+      ∙ over-bus-throughout (next s g w (l .0) (l .1)) (kept s g w (l .0) (l .1)) ws (l .2) m
+      ∙ ap (λ (r : Core). afterFirst p r ws ((m + 1) / 5)) (done s g w (l .0) (l .1))
+      ∙ ap (λ (n : ℕ). afterFirst p (s .regs) (w ∷ ws) n) (sym (five m))
 
--- ---- a course that takes its next step only at every fifth moment is as still
-module _ (slow course : ℕ → Core) (goal : Settings) (i : ℕ) (follows : (m : ℕ) → slow m ≡ course ((m + 1) / 5)) where
-  drives : (m : ℕ) → driveAt (slow m) i ≡ driveAt (course ((m + 1) / 5)) i
-  drives m = ap (λ (r : Core). driveAt r i) (follows m)
+  -- ---- a course that takes its next step only at every fifth moment is as still
+  module _ (slow course : ℕ → Core) (goal : Settings) (i : ℕ) (follows : (m : ℕ) → slow m ≡ course ((m + 1) / 5)) where
+    drives : (m : ℕ) → driveAt p (slow m) i ≡ driveAt p (course ((m + 1) / 5)) i
+    drives m = ap (λ (r : Core). driveAt p r i) (follows m)
 
-  -- where the drive changes, a step was taken
-  step-taken : (m : ℕ) → (driveAt (slow m) i ≡ driveAt (slow (suc m)) i → ⊥) → (suc m + 1) / 5 ≡ suc ((m + 1) / 5)
-  step-taken m change = go (eqb ((suc m + 1) / 5) ((m + 1) / 5)) refl
-    where
-      go : (b : Bool) → eqb ((suc m + 1) / 5) ((m + 1) / 5) ≡ b → (suc m + 1) / 5 ≡ suc ((m + 1) / 5)
-      go true e = absurd (change (drives m ∙ ap (λ (n : ℕ). driveAt (course n) i) (sym (eqb-true ((suc m + 1) / 5) ((m + 1) / 5) e)) ∙ sym (drives (suc m))))
-      go false e = let z = eqb-false ((suc m + 1) / 5) ((m + 1) / 5) e in omega (arith, z)
+    -- where the drive changes, a step was taken
+    step-taken : (m : ℕ) → (driveAt p (slow m) i ≡ driveAt p (slow (suc m)) i → ⊥) → (suc m + 1) / 5 ≡ suc ((m + 1) / 5)
+    step-taken m change = go (eqb ((suc m + 1) / 5) ((m + 1) / 5)) refl
+      where
+        go : (b : Bool) → eqb ((suc m + 1) / 5) ((m + 1) / 5) ≡ b → (suc m + 1) / 5 ≡ suc ((m + 1) / 5)
+        go true e = absurd (change (drives m ∙ ap (λ (n : ℕ). driveAt p (course n) i) (sym (eqb-true ((suc m + 1) / 5) ((m + 1) / 5) e)) ∙ sym (drives (suc m))))
+        go false e = let z = eqb-false ((suc m + 1) / 5) ((m + 1) / 5) e in omega (arith, z)
 
-  changes : (m : ℕ) → (driveAt (slow m) i ≡ driveAt (slow (suc m)) i → ⊥) → driveAt (course ((m + 1) / 5)) i ≡ driveAt (course (suc ((m + 1) / 5))) i → ⊥
-  changes m change e = change (drives m ∙ e ∙ ap (λ (n : ℕ). driveAt (course n) i) (sym (step-taken m change)) ∙ sym (drives (suc m)))
+    changes : (m : ℕ) → (driveAt p (slow m) i ≡ driveAt p (slow (suc m)) i → ⊥) → driveAt p (course ((m + 1) / 5)) i ≡ driveAt p (course (suc ((m + 1) / 5))) i → ⊥
+    changes m change e = change (drives m ∙ e ∙ ap (λ (n : ℕ). driveAt p (course n) i) (sym (step-taken m change)) ∙ sym (drives (suc m)))
 
-  same-moment : (a b : ℕ) → (suc a + 1) / 5 ≡ suc ((a + 1) / 5) → (suc b + 1) / 5 ≡ suc ((b + 1) / 5) → (a + 1) / 5 ≡ (b + 1) / 5 → a ≡ b
-  same-moment a b x y z = omega (arith, x, y, z)
+    same-moment : (a b : ℕ) → (suc a + 1) / 5 ≡ suc ((a + 1) / 5) → (suc b + 1) / 5 ≡ suc ((b + 1) / 5) → (a + 1) / 5 ≡ (b + 1) / 5 → a ≡ b
+    same-moment a b x y z = omega (arith, x, y, z)
 
-  pub still-slowly : Still course goal i → Still slow goal i
-  still-slowly q = record {
-    either = λ m. ⊎-elim (λ e. inl (drives m ∙ e ∙ sym (drives 0))) (λ e. inr (drives m ∙ e)) (q .either ((m + 1) / 5));
-    once = λ a b x y. same-moment a b (step-taken a x) (step-taken b y) (q .once ((a + 1) / 5) ((b + 1) / 5) (changes a x) (changes b y));
-    input = λ x y m. (
-        let k = q .input (ap (λ (r : Core). inputAt r i) (sym (follows 0)) ∙ x) y ((m + 1) / 5) in (
-          ap (λ (r : Core). inputAt r i) (follows m) ∙ k .0,
-          ap (λ (r : Core). statusAt r i) (follows m) ∙ k .1 ∙ sym (ap (λ (r : Core). statusAt r i) (follows 0)),
-        ));
-  }
-
--- a well-formed state's registers and pins are formed
-formed : (s : State) → WellFormed part24 s → Formed (s .regs)
-formed s g = record { full = g .full; fits = g .sound .file-fits; within = g .sound .within }
-
--- a quiet list is quiet over the bus, on every well-formed device at the start, at every moment
-pub quiet-over-bus : (s : State) → WellFormed part24 s → (start goal : Settings) → settingsOf (s .regs) ≡ start → (ws : List Write) → Listed ws → Quiet start goal ws → QuietOverBus s goal ws
-quiet-over-bus s g start goal e ws l quiet =
-    let q = quiet (s .regs) (formed s g) e in
-    record {
-      taken = over-bus-answers s g ws l;
-      reached = ap settingsOf (over-bus s g ws l) ∙ q .reached;
-      still = λ i h. still-slowly (afterEvents s ws) (afterFirst (s .regs) ws) goal i (over-bus-throughout s g ws l) (q .still i h);
+    pub still-slowly : Still p course goal i → Still p slow goal i
+    still-slowly q = record {
+      either = λ m. ⊎-elim (λ e. inl (drives m ∙ e ∙ sym (drives 0))) (λ e. inr (drives m ∙ e)) (q .either ((m + 1) / 5));
+      once = λ a b x y. same-moment a b (step-taken a x) (step-taken b y) (q .once ((a + 1) / 5) ((b + 1) / 5) (changes a x) (changes b y));
+      input = λ x y m. (
+          let k = q .input (ap (λ (r : Core). inputAt p r i) (sym (follows 0)) ∙ x) y ((m + 1) / 5) in (
+            ap (λ (r : Core). inputAt p r i) (follows m) ∙ k .0,
+            ap (λ (r : Core). statusAt p r i) (follows m) ∙ k .1 ∙ sym (ap (λ (r : Core). statusAt p r i) (follows 0)),
+          ));
     }
+
+  -- a well-formed state's registers and pins are formed
+  formed : (s : State) → WellFormed p s → Formed p (s .regs)
+  formed s g = record { full = g .full; fits = g .sound .file-fits; within = g .sound .within }
+
+  -- a quiet list is quiet over the bus, on every well-formed device at the start, at every moment
+  pub quiet-over-bus : (s : State) → WellFormed p s → (start goal : Settings) → settingsOf p (s .regs) ≡ start → (ws : List Write) → Listed p ws → Quiet p start goal ws → QuietOverBus p s goal ws
+  quiet-over-bus s g start goal e ws l quiet =
+      let q = quiet (s .regs) (formed s g) e in
+      record {
+        taken = over-bus-answers s g ws l;
+        reached = ap (settingsOf p) (over-bus s g ws l) ∙ q .reached;
+        still = λ i h. still-slowly (afterEvents p s ws) (afterFirst p (s .regs) ws) goal i (over-bus-throughout s g ws l) (q .still i h);
+      }

@@ -3,7 +3,7 @@ use mathlib.Core.List.{List, [], _∷_, _++_}
 use mathlib.Core.Path.{_≡_}
 use Prim.Native.Nat.{ℕ, _<_}
 use lib.ListN.{take}
-use Rattle.map.specs.Map.{part24}
+use Rattle.map.specs.Map.{Part}
 use Rattle.registers.specs.Registers.{Core}
 use Rattle.device_rules.specs.Device.{State}
 use Rattle.device_rules.specs.declared.Answer.{Answer}
@@ -19,8 +19,8 @@ overBus choice [] = []
 overBus choice (w ∷ ws) = writeOver choice (w .register) (w .value) ++ overBus choice ws
 
 -- registers and pins after the first m events of them: in the middle of a transaction too
-abbrev pub afterEvents : State → List Write → ℕ → Core
-afterEvents s ws m = after part24 s (take m (overBus (s .choice) ws)) .regs
+abbrev pub afterEvents : Part → State → List Write → ℕ → Core
+afterEvents p s ws m = after p s (take m (overBus (s .choice) ws)) .regs
 
 -- each transaction's address byte, command and data byte are acknowledged
 abbrev pub allTaken : List Write → List Answer
@@ -28,7 +28,7 @@ allTaken [] = []
 allTaken (w ∷ ws) = Nothing ∷ Ack ∷ Ack ∷ Ack ∷ Nothing ∷ allTaken ws
 
 -- sent to the device s the list is acknowledged, reaches the goal, and every pin is still from event to event
-pub record QuietOverBus (s : State) (goal : Settings) (ws : List Write) : Type 0 where
-  pub taken : answers part24 s (overBus (s .choice) ws) ≡ allTaken ws
-  pub reached : settingsOf (after part24 s (overBus (s .choice) ws) .regs) ≡ goal
-  pub still : (i : ℕ) → i < 24 → Still (afterEvents s ws) goal i
+pub record QuietOverBus (p : Part) (s : State) (goal : Settings) (ws : List Write) : Type 0 where
+  pub taken : answers p s (overBus (s .choice) ws) ≡ allTaken ws
+  pub reached : settingsOf p (after p s (overBus (s .choice) ws) .regs) ≡ goal
+  pub still : (i : ℕ) → i < p .width → Still p (afterEvents p s ws) goal i

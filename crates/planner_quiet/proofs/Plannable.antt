@@ -1,6 +1,6 @@
 -- What a part's map must be for the theorems about its planner: tests that antt computes for both parts. Assumes nothing.
 use mathlib.Core.Path.{_≡_, refl, sym, ap, ap₂, subst, _∙_}
-use mathlib.Core.Bool.{Bool, true, false, cond}
+use mathlib.Core.Bool.{Bool, true, false, cond, not}
 use mathlib.Core.List.{List, [], _∷_}
 use Prim.Native.Nat.{ℕ, zero, suc, _+_, _*_, _/_, _%_, _^_, _<_}
 use native.Mathlib.Nat.{min-le-left}
@@ -10,7 +10,7 @@ use lib.Arith.{digits-div, digits-mod}
 use lib.Dec.{eqb, ltb}
 use lib.ListN.{getD, length}
 use Rattle.bits.proofs.Decide.{each, eachBool}
-use Rattle.map.specs.Map.{Part, Kind, part24, part34, partOf, firstOf, kindAt, roomAt, keptIn, fitting, fittingAt}
+use Rattle.map.specs.Map.{Part, Kind, part24, part34, partOf, firstOf, kindAt, reserved, roomAt, keptIn, fitting, fittingAt}
 use Rattle.map.specs.Map.Kind.{Reserved, Input, Status, InputStatus, Configuration, Latch, Mask, PortKind, Edge, Clear, Output, Polarity, PinKind, Stored}
 use Rattle.registers.specs.Registers.{keptAs}
 use Rattle.registers.proofs.Pinwise.{Mapped, mapped24, mapped34}
@@ -50,6 +50,7 @@ pub record Plannable (p : Part) : Type 0 where
   pub reaching : 8 * p .ports < p .width + 8
   pub small : (q : ℕ) → q < length (registersOf p) → ltb (numberAt p q) 128 ≡ true
   pub kinds : (q : ℕ) → q < length (registersOf p) → planned (kindAt p (numberAt p q)) ≡ true
+  pub known : (q : ℕ) → q < length (registersOf p) → not (reserved p (numberAt p q)) ≡ true
   -- of a byte the bits that exist are stored, and a byte may stand there that has no other: m is 256 times q and the byte
   pub keeps : (m : ℕ) → m < length (registersOf p) * 256 → keptAt p (numberAt p (m / 256)) (m % 256) ≡ m % 256 % 2 ^ roomAt p (numberAt p (m / 256))
   pub fits : (m : ℕ) → m < length (registersOf p) * 256 → fittingAt p (numberAt p (m / 256)) (m % 256) ≡ ltb (m % 256) (2 ^ roomAt p (numberAt p (m / 256)))
@@ -62,7 +63,7 @@ pub record Plannable (p : Part) : Type 0 where
   pub zero-fits : (n : ℕ) → n < 128 → fittingAt p n 0 ≡ true
 
 pub plannable24 : Plannable part24
-unfolding kindAt fitting
+unfolding kindAt reserved fitting
 plannable24 = record {
   mapped = mapped24;
   regular = record {
@@ -79,6 +80,7 @@ plannable24 = record {
   reaching = omega arith;
   small = eachBool 10 _ _ tt;
   kinds = eachBool 10 _ _ tt;
+  known = eachBool 10 _ _ tt;
   keeps = each 2560 _ _ tt;
   fits = eachBool 2560 _ _ tt;
   at-output = each 3 _ _ tt;
@@ -89,7 +91,7 @@ plannable24 = record {
 }
 
 pub plannable34 : Plannable part34
-unfolding kindAt fitting
+unfolding kindAt reserved fitting
 plannable34 = record {
   mapped = mapped34;
   regular = record {
@@ -106,6 +108,7 @@ plannable34 = record {
   reaching = omega arith;
   small = eachBool 16 _ _ tt;
   kinds = eachBool 16 _ _ tt;
+  known = eachBool 16 _ _ tt;
   keeps = each 4096 _ _ tt;
   fits = eachBool 4096 _ _ tt;
   at-output = each 5 _ _ tt;

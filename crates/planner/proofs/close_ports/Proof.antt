@@ -1,6 +1,5 @@
 -- `planner::close_ports`: port by port; the invariant is `Closing`. Assumes nothing.
 use borrow.Author.Needs.{needs}
-use mathlib.Core.Path.{_∙_}
 use Prim.Native.Nat.{_-_}
 use native.Mathlib.Omega.{arith}
 use Rattle.map.specs.Map.{partOf}

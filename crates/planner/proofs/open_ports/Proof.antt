@@ -1,6 +1,5 @@
 -- `planner::open_ports`: port by port; the invariant is `Opening`. Assumes nothing.
 use borrow.Author.Needs.{needs}
-use mathlib.Core.Path.{_∙_}
 use Prim.Native.Nat.{_-_}
 use native.Mathlib.Omega.{arith}
 use Rattle.map.specs.Map.{partOf}
