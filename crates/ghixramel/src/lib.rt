@@ -4,6 +4,7 @@ ghost use mathlib.Core.Bool.{false};
 ghost use Prim.Native.Nat.{_<_};
 ghost use lib.Dec.{eqb};
 ghost use lib.ListN.{length};
+ghost use Rattle.map.specs.Map.{part24};
 ghost use Rattle.planner_promise.specs.Answer.{answerOf, Answers};
 ghost use Rattle.planner_promise.specs.Promise.{Promise};
 ghost use Rattle.host_words.specs.Host.{Told, Made, Seen, Shown, drivesOf, intOf, imageIn, FromImage, ToImage, plannedAs, countIn};
@@ -251,8 +252,8 @@ pub extern "C" fn ghixramel_plan(
     writes: &mut [u64; 1],
 ) -> u32
     ensures exact { λ r. ⌜ Answers (plannedAs r (now (writes .exit))) (now (buffer .entry)) (now (buffer .exit))
-        (answerOf (now (start .entry)) (now (goal .entry)) (length (now (buffer .entry)))) ⌝ }
-    ensures promise { λ r. ⌜ Promise (now (start .entry)) (now (goal .entry)) (now (buffer .entry)) (now (buffer .exit)) r (countIn r (now (writes .exit))) ⌝ }
+        (answerOf part24 (now (start .entry)) (now (goal .entry)) (length (now (buffer .entry)))) ⌝ }
+    ensures promise { λ r. ⌜ Promise part24 (now (start .entry)) (now (goal .entry)) (now (buffer .entry)) (now (buffer .exit)) r (countIn r (now (writes .exit))) ⌝ }
     ensures refused { λ r. ⌜ (eqb r 0 ≡ false → now (writes .exit) ≡ now (writes .entry)) ⌝ }
 {
     let planned = planner::plan(start, goal, buffer);

@@ -7,7 +7,7 @@ use borrow.Author.Tests.{lt-ltb, le-ltb}
 use lib.Dec.{eqb, ltb}
 use lib.ListN.{length, getD}
 use Rattle.bits.proofs.Decide.{clash}
-use Rattle.map.specs.Map.{Part, partOf, reserved}
+use Rattle.map.specs.Map.{Part, part24, partOf, reserved}
 use Rattle.registers.specs.Registers.{core}
 use Rattle.device_rules.specs.Device.{State, Outcome, state, shownIn}
 use Rattle.device_rules.specs.Answers.{refusalNumber}
@@ -15,10 +15,10 @@ use Rattle.device_rules.specs.declared.Answer.{Answer}
 use Rattle.device_rules.specs.declared.Answer.the-variants.{Nothing, Ack, Nak, Byte, Refused}
 use Rattle.device_rules.specs.Refusals.{imageFits}
 use Rattle.device_rules.specs.PowerOn.{powerOn, makingRefused}
-use Rattle.planner_quiet.specs.Settings.{shape24, Write}
+use Rattle.planner_quiet.specs.Settings.{shapeOf, Write}
 use Rattle.planner_quiet.specs.Order.{blocked}
 use Rattle.planner_quiet.specs.Route.{planOf}
-use Rattle.planner_promise.specs.Formed.{formed}
+use Rattle.planner_promise.specs.Formed.{formed, roomFor}
 use Rattle.planner_promise.specs.Answer.{answerOf, Answers}
 use Rattle.planner_promise.specs.Answer.Answer.{refuse, give}
 use Rattle.planner_promise.specs.Promise.{refusalOf, countOf, Promise}
@@ -129,14 +129,14 @@ not-zero true true stuck ws n before after q = ap (λ (p : Planned). eqb (refusa
 not-zero true false true ws n before after q = ap (λ (p : Planned). eqb (refusalOf p) 0) (q .0)
 not-zero true false false ws n before after q = clash true refl (ap isRefusal (q .0))
 
-module _ (start goal before after : List ℕ) where
+module _ (part : Part) (start goal before after : List ℕ) where
   abbrev Said : Planned → Type 0
-  Said p = Answers p before after (answerOf start goal (length before))
+  Said p = Answers p before after (answerOf part start goal (length before))
 
   refusal-not-zero : (n : ℕ) → Said (Planned.Refused n) → eqb n 0 ≡ false
   unfolding answerOf
   refusal-not-zero n q =
-      not-zero (formed start && formed goal) (ltb (length before) 32) (blocked shape24 start goal) (planOf shape24 start goal) n before after q
+      not-zero (formed part start && formed part goal) (ltb (length before) (roomFor part)) (blocked (shapeOf part) start goal) (planOf (shapeOf part) start goal) n before after q
 
   -- so the two numbers say which of the two it was
   as-numbers : (p : Planned) → Said p → (writes : List ℕ) → plannedAs (refusalOf p) (writesAfter p writes) ≡ p
@@ -147,15 +147,15 @@ kept-writes : (p : Planned) (writes : List ℕ) → eqb (refusalOf p) 0 ≡ fals
 kept-writes (Planned.Writes n) writes h = clash true refl h
 kept-writes (Planned.Refused n) writes h = refl
 
-pub plan-told : {start goal before after : List ℕ} (p : Planned) → Promise start goal before after (refusalOf p) (countOf p) → Said start goal before after p
+pub plan-told : (part : Part) {start goal before after : List ℕ} (p : Planned) → Promise part start goal before after (refusalOf p) (countOf p) → Said part start goal before after p
     → {n : ℕ} {writes rest : List ℕ} → n ≡ refusalOf p → rest ≡ writesAfter p writes
-    → Said start goal before after (plannedAs n rest) × (Promise start goal before after n (countIn n rest) × (eqb n 0 ≡ false → rest ≡ writes))
-plan-told {start} {goal} {before} {after} p promise said {n} {writes} {rest} e q =
-    let same : plannedAs n rest ≡ p = ap₂ plannedAs e q ∙ as-numbers start goal before after p said writes in (
-      subst (Said start goal before after) (sym same) said,
+    → Said part start goal before after (plannedAs n rest) × (Promise part start goal before after n (countIn n rest) × (eqb n 0 ≡ false → rest ≡ writes))
+plan-told part {start} {goal} {before} {after} p promise said {n} {writes} {rest} e q =
+    let same : plannedAs n rest ≡ p = ap₂ plannedAs e q ∙ as-numbers part start goal before after p said writes in (
+      subst (Said part start goal before after) (sym same) said,
       (
-        subst (λ (m : ℕ). Promise start goal before after m (countIn n rest)) (sym e)
-            (subst (Promise start goal before after (refusalOf p)) (ap countOf (sym same)) promise),
+        subst (λ (m : ℕ). Promise part start goal before after m (countIn n rest)) (sym e)
+            (subst (Promise part start goal before after (refusalOf p)) (ap countOf (sym same)) promise),
         λ h. q ∙ kept-writes p writes (ap (λ (n : ℕ). eqb n 0) (sym e) ∙ h),
       ),
     )

@@ -37,7 +37,7 @@ abbrev pub holds : Case → Bool
 holds (case p events look seen) = eqb (look p (last p (out Nothing (powerOn p 0 0)) events)) seen
 holds (made p levels refusal) = eqb (makingRefused p 0 levels) refusal
 holds (image p change refusal) = eqb (refusalNumber (stepped p (change (powerOn p 0 0)) 0 0 .answer)) refusal
-holds (planned start goal room look seen) = eqb (look (answerOf start goal room)) seen
+holds (planned start goal room look seen) = eqb (look (answerOf part24 start goal room)) seen
 
 abbrev pub all : List Case → Bool
 all [] = true
