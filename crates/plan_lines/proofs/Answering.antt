@@ -11,6 +11,7 @@ use lib.Seq.{take-at}
 use Rattle.text.specs.Text.{Wrote}
 use Rattle.text.proofs.Laws.{wrote-as}
 use Rattle.text_answers.specs.Answers.{refusedLine}
+use Rattle.map.specs.Map.{part24}
 use Rattle.planner_quiet.specs.Settings.{Write}
 use Rattle.planner_promise.specs.Formed.{formed}
 use Rattle.planner_promise.specs.Promise.{bytesOf, refusalOf, countOf}
@@ -52,13 +53,13 @@ module _ (r : Planned) (before after : List ℕ) where
 
 -- ---- settings that are not ten bytes
 module _ (start goal : List ℕ) (n : ℕ) where
-  pub five-start : eqb (length start) 10 ≡ false → answerOf start goal n ≡ refuse 5
+  pub five-start : eqb (length start) 10 ≡ false → answerOf part24 start goal n ≡ refuse 5
   unfolding answerOf
   five-start h = rw h
 
-  pub five-goal : eqb (length goal) 10 ≡ false → answerOf start goal n ≡ refuse 5
+  pub five-goal : eqb (length goal) 10 ≡ false → answerOf part24 start goal n ≡ refuse 5
   unfolding answerOf
-  five-goal h = rw (h, and-false (formed start))
+  five-goal h = rw (h, and-false (formed part24 start))
 
 -- ---- the line
 module _ (line : List ℕ) (r : Reading) (held : Holds r line) (n : ℕ) (heard : n ≡ lineRefusal r) where
@@ -82,12 +83,12 @@ module _ (line : List ℕ) (r : Reading) (held : Holds r line) (n : ℕ) (heard 
       go true t = five t (eqb (length (startIn line)) 10) (eqb (length (goalIn line)) 10) refl refl
       go false t = let k : n ≡ 7 = number-is (refused-seven line t) in rw t (ap refuse (sym k))
 
-  line-asked : n ≡ 0 → answerTo line ≡ answerOf (r .start .bytes) (r .goal .bytes) room
+  line-asked : n ≡ 0 → answerTo line ≡ answerOf part24 (r .start .bytes) (r .goal .bytes) room
   unfolding answerTo
   line-asked z = go (readable line) refl
     where
       ten : readable line ≡ true → (s g : Bool) → eqb (length (startIn line)) 10 ≡ s → eqb (length (goalIn line)) 10 ≡ g
-          → answerTo line ≡ answerOf (r .start .bytes) (r .goal .bytes) room
+          → answerTo line ≡ answerOf part24 (r .start .bytes) (r .goal .bytes) room
       ten t false g e f = let k : n ≡ 5 = number-is (refused-five line t ∙ rw e) in absurd (omega (arith, z, k))
       ten t true false e f = let k : n ≡ 5 = number-is (refused-five line t ∙ rw (e, f)) in absurd (omega (arith, z, k))
       ten t true true e f =
@@ -95,7 +96,7 @@ module _ (line : List ℕ) (r : Reading) (held : Holds r line) (n : ℕ) (heard 
           let b = goal-heard line t (eqb-true (length (goalIn line)) 10 f) in
           rw (t, held, a, b)
 
-      go : (t : Bool) → readable line ≡ t → answerTo line ≡ answerOf (r .start .bytes) (r .goal .bytes) room
+      go : (t : Bool) → readable line ≡ t → answerTo line ≡ answerOf part24 (r .start .bytes) (r .goal .bytes) room
       go true t = ten t (eqb (length (startIn line)) 10) (eqb (length (goalIn line)) 10) refl refl
       go false t = let k : n ≡ 7 = number-is (refused-seven line t) in absurd (omega (arith, z, k))
 
@@ -105,12 +106,12 @@ module _ (line : List ℕ) (r : Reading) (held : Holds r line) (n : ℕ) (heard 
     refused-tells h w = let e = line-refused h in record { wrote = wrote-as (ap answerText (sym e)) w; told = ap refusalIn (sym e) }
 
     pub planned-tells : n ≡ 0 → (p : Planned) (before after : List ℕ) → length before ≡ room
-        → Answers p before after (answerOf (r .start .bytes) (r .goal .bytes) (length before))
+        → Answers p before after (answerOf part24 (r .start .bytes) (r .goal .bytes) (length before))
         → Wrote out at (plannedText p after) end left → {k : ℕ} → k ≡ refusalOf p → Tells line out at end k left
     unfolding planText
     planned-tells z p before after all answers w e =
-        let a : Answer = answerOf (r .start .bytes) (r .goal .bytes) (length before) in
-        let same : a ≡ answerTo line = ap (answerOf (r .start .bytes) (r .goal .bytes)) all ∙ sym (line-asked z) in
+        let a : Answer = answerOf part24 (r .start .bytes) (r .goal .bytes) (length before) in
+        let same : a ≡ answerTo line = ap (answerOf part24 (r .start .bytes) (r .goal .bytes)) all ∙ sym (line-asked z) in
         record {
           wrote = wrote-as (answer-text p before after a answers ∙ ap answerText same) w;
           told = e ∙ answer-number p before after a answers ∙ ap refusalIn same;

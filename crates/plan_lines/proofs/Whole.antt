@@ -10,6 +10,7 @@ use lib.ListN.{length, getD}
 use Rattle.bits.proofs.Decide.{each, eachBool}
 use Rattle.text.specs.Text.{digitOf, digitByte, hexText}
 use Rattle.text_answers.specs.Answers.{refusedLine}
+use Rattle.map.specs.Map.{part24}
 use Rattle.planner_promise.specs.Answer.{answerOf}
 use Rattle.plan_lines.specs.Lines.{hasTab, beforeTab, afterTab, isDigit, inPairs, bytesIn, spelled, readable, startIn, goalIn}
 use Rattle.plan_lines.specs.Told.{room, answerTo, answerText, planText}
@@ -66,11 +67,11 @@ module _ (start goal : List ℕ) (of-start : Bytes start) (of-goal : Bytes goal)
       (rw (p .0, p .1, p .2, s .0, g .0), rw (p .1) (s .1), rw (p .2) (g .1))
 
   -- and its answer is the planner's to them
-  pub line-answered : answerTo line ≡ answerOf start goal room
+  pub line-answered : answerTo line ≡ answerOf part24 start goal room
   unfolding answerTo
   line-answered = let e = line-says in rw (e .0, e .1, e .2)
 
-  pub line-text : planText line ≡ answerText (answerOf start goal room)
+  pub line-text : planText line ≡ answerText (answerOf part24 start goal room)
   unfolding planText
   line-text = ap answerText line-answered
 

@@ -6,6 +6,7 @@ use Prim.Native.Nat.{ℕ, _*_}
 use lib.ListN.{take}
 use Rattle.text.specs.Text.{hexText, Wrote}
 use Rattle.text_answers.specs.Answers.{refusedLine}
+use Rattle.map.specs.Map.{part24}
 use Rattle.planner_quiet.specs.Settings.{Write}
 use Rattle.planner_promise.specs.Answer.{Answer, refuse, give, answerOf}
 use Rattle.planner_promise.specs.declared.Planned.{Planned}
@@ -17,7 +18,7 @@ room = 32
 
 -- the planner's answer to the settings that the line says; refusal 7 where it is not readable
 unfoldable pub answerTo : (line : List ℕ) → Answer
-answerTo line = cond (readable line) (answerOf (startIn line) (goalIn line) room) (refuse 7)
+answerTo line = cond (readable line) (answerOf part24 (startIn line) (goalIn line) room) (refuse 7)
 
 -- ---- the answer as text
 -- a write: a tab, its register, its value

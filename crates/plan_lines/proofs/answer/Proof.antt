@@ -3,6 +3,7 @@ use native.Mathlib.Omega.{arith}
 use borrow.Author.Needs.{needs}
 use mathlib.Core.Path.{_≡_, refl}
 use lib.ListN.{length, replicate}
+use Rattle.map.specs.Map.{part24}
 use Rattle.planner_promise.specs.Answer.{answerOf}
 use Rattle.plan_lines.specs.Told.{room}
 use Rattle.plan_lines.proofs.Answering.{few-writes, refused-tells, planned-tells}
@@ -25,7 +26,7 @@ put-planned-requires c κs =
     let all : length (p .plan .last .1 .1 .0) ≡ 32 = search needs in
     let s = p .before .before .before .before .before .before .before .before .before .before .before in
     let r = s .args .r in
-    (few-writes (p .plan .result) (replicate room 0) _ (answerOf (r .start .bytes) (r .goal .bytes) room) (p .plan .ensures .0) all, all, search needs)
+    (few-writes (p .plan .result) (replicate room 0) _ (answerOf part24 (r .start .bytes) (r .goal .bytes) room) (p .plan .ensures .0) all, all, search needs)
 
 returns-2 : tie.Need-returns-2
 returns-2 c =
