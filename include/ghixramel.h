@@ -195,6 +195,9 @@ uint32_t ghixramel34_show(const struct ghixramel *device, uint32_t number, uint8
 uint32_t ghixramel34_pack(uint64_t words[28], const uint64_t pins[4], const uint8_t registers[128], const uint64_t rest[5]);
 uint32_t ghixramel34_unpack(const uint64_t words[28], uint64_t pins[4], uint8_t registers[128], uint64_t rest[5]);
 
+uint32_t ghixramel34_plan(const uint8_t *start, uint64_t start_bytes, const uint8_t *goal, uint64_t goal_bytes,
+                          uint8_t *buffer, uint64_t buffer_bytes, uint64_t writes[1]);
+
 static inline uint32_t ghixramel34_to_image(const struct ghixramel *device, struct ghixramel_image *image)
 {
     uint64_t rest[5] = {0};

@@ -4,7 +4,7 @@ ghost use mathlib.Core.Bool.{false};
 ghost use Prim.Native.Nat.{_<_};
 ghost use lib.Dec.{eqb};
 ghost use lib.ListN.{length};
-ghost use Rattle.map.specs.Map.{part24};
+ghost use Rattle.map.specs.Map.{part24, part34};
 ghost use Rattle.planner_promise.specs.Answer.{answerOf, Answers};
 ghost use Rattle.planner_promise.specs.Promise.{Promise};
 ghost use Rattle.host_words.specs.Host.{Told, Made, Seen, Shown, drivesOf, intOf, imageIn, FromImage, ToImage, plannedAs, countIn};
@@ -339,4 +339,21 @@ pub extern "C" fn ghixramel34_burst(
         (now (done .entry)) (now (done .exit)) ⌝ }
 {
     words_burst::burst(words, PCAL6534, events, asked, answers, done)
+}
+
+// The plan from the start to the goal, at the start of the buffer.
+#[no_mangle]
+pub extern "C" fn ghixramel34_plan(
+    start: &[u8],
+    goal: &[u8],
+    buffer: &mut [u8],
+    writes: &mut [u64; 1],
+) -> u32
+    ensures exact { λ r. ⌜ Answers (plannedAs r (now (writes .exit))) (now (buffer .entry)) (now (buffer .exit))
+        (answerOf part34 (now (start .entry)) (now (goal .entry)) (length (now (buffer .entry)))) ⌝ }
+    ensures promise { λ r. ⌜ Promise part34 (now (start .entry)) (now (goal .entry)) (now (buffer .entry)) (now (buffer .exit)) r (countIn r (now (writes .exit))) ⌝ }
+    ensures refused { λ r. ⌜ (eqb r 0 ≡ false → now (writes .exit) ≡ now (writes .entry)) ⌝ }
+{
+    let planned = planner::plan34(start, goal, buffer);
+    host_words::tell_plan(planned, writes)
 }

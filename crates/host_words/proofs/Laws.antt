@@ -7,7 +7,7 @@ use borrow.Author.Tests.{lt-ltb, le-ltb}
 use lib.Dec.{eqb, ltb}
 use lib.ListN.{length, getD}
 use Rattle.bits.proofs.Decide.{clash}
-use Rattle.map.specs.Map.{Part, part24, partOf, reserved}
+use Rattle.map.specs.Map.{Part, partOf, reserved}
 use Rattle.registers.specs.Registers.{core}
 use Rattle.device_rules.specs.Device.{State, Outcome, state, shownIn}
 use Rattle.device_rules.specs.Answers.{refusalNumber}
