@@ -93,7 +93,7 @@ fn judged24(words: &[u64; 28]) -> u32
     words_rows::row24((words[POINTER] % 128) as u8)
 }
 
-// And of its sister. One function with the limits as arguments is a call with seven of them in every step.
+// And of its sister. One function for both, with the limits as arguments, is a call of six of them in every step.
 fn judged34(words: &[u64; 28]) -> u32
     ensures { λ r. ⌜ Judged 1 (now (words .entry)) r ⌝ }
 {
