@@ -1,11 +1,11 @@
 -- The bench points of both devices and the planner, one table: what is done, what one looks at, and what must be seen.
 use mathlib.Core.Bool.{Bool, true, false, _&&_}
 use mathlib.Core.List.{List, [], _∷_, _++_}
-use Prim.Native.Nat.{ℕ}
+use Prim.Native.Nat.{ℕ, _-_, _*_, _%_, _^_, min}
 use lib.Dec.{eqb}
 use lib.ListN.{getD, set, length}
 use Rattle.bits.specs.Bits.{val}
-use Rattle.map.specs.Map.{Part, part24, part34}
+use Rattle.map.specs.Map.{Part, part24, part34, entries}
 use Rattle.registers.specs.Registers.{core, drivenLow, drivenHigh, intAsserted}
 use Rattle.device_rules.specs.Device.{State, Outcome, state, out}
 use Rattle.device_rules.specs.Refusals.{stepped}
@@ -25,8 +25,8 @@ pub data Case : Type 0 where
   made : Part → (levels : ℕ) → (refusal : ℕ) → Case
   -- an image of the part at power-on, changed, is asked a START; one looks at the refusal
   image : Part → (State → State) → (refusal : ℕ) → Case
-  -- a start, a goal and a buffer of so many bytes; one looks at the planner's answer
-  planned : (start goal : Settings) → (room : ℕ) → (Answer → ℕ) → (seen : ℕ) → Case
+  -- a start, a goal and a buffer of so many bytes; one looks at the answer of the part's planner
+  planned : Part → (start goal : Settings) → (room : ℕ) → (Answer → ℕ) → (seen : ℕ) → Case
 
 -- the last outcome
 abbrev pub last : Part → Outcome → List Asked → Outcome
@@ -37,7 +37,7 @@ abbrev pub holds : Case → Bool
 holds (case p events look seen) = eqb (look p (last p (out Nothing (powerOn p 0 0)) events)) seen
 holds (made p levels refusal) = eqb (makingRefused p 0 levels) refusal
 holds (image p change refusal) = eqb (refusalNumber (stepped p (change (powerOn p 0 0)) 0 0 .answer)) refusal
-holds (planned start goal room look seen) = eqb (look (answerOf part24 start goal room)) seen
+holds (planned p start goal room look seen) = eqb (look (answerOf p start goal room)) seen
 
 abbrev pub all : List Case → Bool
 all [] = true
@@ -101,15 +101,23 @@ abbrev pub countIs : Answer → ℕ
 countIs (refuse n) = 0
 countIs (give ws) = length ws
 
--- settings of port 0, every pin of the other ports an input with output 1 and kinds 0
+-- settings of port 0 of the 24-pin part, every pin of the other ports an input with output 1 and kinds 0
 abbrev pub port0 : (output configuration portKind pinKind : ℕ) → Settings
 port0 output configuration portKind pinKind =
     output ∷ 0xff ∷ 0xff ∷ configuration ∷ 0xff ∷ 0xff ∷ portKind ∷ pinKind ∷ 0x00 ∷ 0x00 ∷ []
 
+-- and of port 4 of the sister, which has two pins
+abbrev pub port4 : (output configuration portKind pinKind : ℕ) → Settings
+port4 output configuration portKind pinKind =
+    0xff ∷ 0xff ∷ 0xff ∷ 0xff ∷ output ∷ 0xff ∷ 0xff ∷ 0xff ∷ 0xff ∷ configuration ∷ portKind ∷ 0x00 ∷ 0x00 ∷ 0x00 ∷ 0x00 ∷ pinKind ∷ []
+
+-- v in the register of each port: of the last the bits that exist
+abbrev pub eachPort : Part → (v : ℕ) → Settings
+eachPort p v = entries (λ k. v % 2 ^ min 8 (p .width - 8 * k)) 0 (p .ports)
+
 -- settings that are alike in every port
-abbrev pub alike : (output configuration portKinds pinKind : ℕ) → Settings
-alike output configuration portKinds pinKind =
-    output ∷ output ∷ output ∷ configuration ∷ configuration ∷ configuration ∷ portKinds ∷ pinKind ∷ pinKind ∷ pinKind ∷ []
+abbrev pub alike : Part → (output configuration portKinds pinKind : ℕ) → Settings
+alike p output configuration portKinds pinKind = eachPort p output ++ (eachPort p configuration ++ (portKinds ∷ eachPort p pinKind))
 
 -- the command n and one data byte: the pointer has stepped once
 abbrev pub steppedFrom : ℕ → List Asked
@@ -218,16 +226,27 @@ cases =
     ∷ image part34 (levelled 0x3_ffff_ffff) 0
     ∷ image part34 (levelled 0x4_0000_0000) 3
     -- pin 0 high at both ends, its port bit in 5C and its own bit in 70 both from 0 to 1: refusal 4
-    ∷ planned (port0 0xff 0xfe 0x00 0x00) (port0 0xff 0xfe 0x01 0x01) 32 refusalIs 4
+    ∷ planned part24 (port0 0xff 0xfe 0x00 0x00) (port0 0xff 0xfe 0x01 0x01) 32 refusalIs 4
     -- the same with output 0, every other pin an input at both ends: a plan
-    ∷ planned (port0 0xfe 0xfe 0x00 0x00) (port0 0xfe 0xfe 0x01 0x01) 32 refusalIs 0
-    ∷ planned (port0 0xfe 0xfe 0x00 0x00) (port0 0xfe 0xfe 0x01 0x01) 32 countIs 2
+    ∷ planned part24 (port0 0xfe 0xfe 0x00 0x00) (port0 0xfe 0xfe 0x01 0x01) 32 refusalIs 0
+    ∷ planned part24 (port0 0xfe 0xfe 0x00 0x00) (port0 0xfe 0xfe 0x01 0x01) 32 countIs 2
     -- pin 0 from driven high to input with output 0, pin 1 the reverse: three writes
-    ∷ planned (port0 0xfd 0xfe 0x00 0x00) (port0 0xfe 0xfd 0x00 0x00) 32 countIs 3
+    ∷ planned part24 (port0 0xfd 0xfe 0x00 0x00) (port0 0xfe 0xfd 0x00 0x00) 32 countIs 3
     -- in each port pin 0 from high to low and pin 1 from low to released, every port and each pin 0 turned open-drain: sixteen writes, the bound
-    ∷ planned (alike 0x01 0xfc 0x00 0x00) (alike 0x02 0xfc 0x07 0x01) 32 countIs 16
+    ∷ planned part24 (alike part24 0x01 0xfc 0x00 0x00) (alike part24 0x02 0xfc 0x07 0x01) 32 countIs 16
     -- a buffer of 32 bytes passes, one of 31 does not, however short the plan; and a malformed goal comes first
-    ∷ planned (port0 0xff 0xff 0x00 0x00) (port0 0xff 0xff 0x00 0x00) 32 refusalIs 0
-    ∷ planned (port0 0xff 0xff 0x00 0x00) (port0 0xff 0xff 0x00 0x00) 31 refusalIs 6
-    ∷ planned (port0 0xff 0xff 0x00 0x00) (port0 0xff 0xff 0x08 0x00) 31 refusalIs 5
+    ∷ planned part24 (port0 0xff 0xff 0x00 0x00) (port0 0xff 0xff 0x00 0x00) 32 refusalIs 0
+    ∷ planned part24 (port0 0xff 0xff 0x00 0x00) (port0 0xff 0xff 0x00 0x00) 31 refusalIs 6
+    ∷ planned part24 (port0 0xff 0xff 0x00 0x00) (port0 0xff 0xff 0x08 0x00) 31 refusalIs 5
+    -- the sister: twenty-six writes, the bound; a buffer of 52 bytes passes, one of 51 does not
+    ∷ planned part34 (alike part34 0x01 0xfc 0x00 0x00) (alike part34 0x02 0xfc 0x1f 0x01) 52 countIs 26
+    ∷ planned part34 (alike part34 0xff 0xff 0x00 0x00) (alike part34 0xff 0xff 0x00 0x00) 52 refusalIs 0
+    ∷ planned part34 (alike part34 0xff 0xff 0x00 0x00) (alike part34 0xff 0xff 0x00 0x00) 51 refusalIs 6
+    -- a bit that does not exist, in 13 or in 53, and the ten bytes of the 24-pin part: 5, before 6
+    ∷ planned part34 (port4 0x03 0x03 0x00 0x00) (port4 0x03 0x07 0x00 0x00) 51 refusalIs 5
+    ∷ planned part34 (port4 0x03 0x03 0x20 0x00) (port4 0x03 0x03 0x00 0x00) 51 refusalIs 5
+    ∷ planned part34 (port0 0xff 0xff 0x00 0x00) (port0 0xff 0xff 0x00 0x00) 51 refusalIs 5
+    -- pin 32 high at both ends, its port bit in 53 and its own bit in 6C both from 0 to 1: refusal 4; the same with output 0: a plan
+    ∷ planned part34 (port4 0x03 0x02 0x00 0x00) (port4 0x03 0x02 0x10 0x01) 52 refusalIs 4
+    ∷ planned part34 (port4 0x02 0x02 0x00 0x00) (port4 0x02 0x02 0x10 0x01) 52 countIs 2
     ∷ []
