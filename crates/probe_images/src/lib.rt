@@ -6,7 +6,6 @@ ghost use mathlib.Core.Path.{_≡_};
 ghost use lib.ListN.{length};
 ghost use Rattle.map.specs.Map.{partOf};
 ghost use Rattle.device_rules.specs.Device.{out as outcome};
-ghost use Rattle.device_rules.specs.Refusals.{stepped};
 ghost use Rattle.device.specs.Held.{stateIn, fitsIn};
 ghost use Rattle.probe_images.specs.Images.{imageIn, imageText, probeLine, probeText};
 ghost use mathlib.Core.Bool.{true};
