@@ -26,11 +26,6 @@ const PART24: u64 = 0;
 
 const PART34: u64 = 1;
 
-// The sister's bound, and the room for so many writes.
-pub const WRITE_BOUND34: usize = 26;
-
-pub const PLAN_ROOM34: usize = 2 * WRITE_BOUND34;
-
 // What the planner knows of a part: its ports, the first register of each group, and the most that a setting's byte may be
 // in the output port kind and in the last port.
 pub struct Layout {
@@ -236,7 +231,7 @@ pub fn plan34(start: &[u8], goal: &[u8], buf: &mut [u8]) -> Planned
     ensures exact { λ r. ⌜ Answers r (now (buf .entry)) (now (buf .exit)) (answerOf part34 (now (start .entry)) (now (goal .entry)) (length (now (buf .entry)))) ⌝ }
     ensures promise { λ r. ⌜ Promise part34 (now (start .entry)) (now (goal .entry)) (now (buf .entry)) (now (buf .exit)) (refusalOf r) (countOf r) ⌝ }
 {
-    let number = refused_early(PART34, start, goal, buf.len(), PLAN_ROOM34);
+    let number = refused_early(PART34, start, goal, buf.len(), Device::plan_room34());
     if number != 0 {
         return Planned::Refused(number);
     }

@@ -1,6 +1,5 @@
 -- `planner::plan34`: the refusals 5 and 6 (`early-refused`), 4 (`stuck-refused`), else the plan (`laid-out`). Each need names its steps from the last call back. Assumes nothing.
 use borrow.Author.Needs.{needs}
-use mathlib.Core.Path.{refl}
 use native.Mathlib.Omega.{arith}
 use Rattle.map.specs.Map.{part34}
 use Rattle.planner_quiet.proofs.Plannable.{plannable34}
@@ -13,20 +12,23 @@ use Rattle.planner.proofs.plan34.Tie as tie
 returns : tie.Need-returns
 returns c =
     let e = c .before in
-    let a = e .before .before .before .before .args in
-    early-refused part34 plannable34 (a .start .now) (a .goal .now) (a .buf .now) 52 refl (e .refused-early .ensures) (c .if1 .taken)
+    let pr = e .before in
+    let a = pr .before .before .before .before .args in
+    early-refused part34 plannable34 (a .start .now) (a .goal .now) (a .buf .now) (pr .plan-room34 .result) (pr .plan-room34 .ensures) (e .refused-early .ensures) (c .if1 .taken)
 
 start-formed : tie.Need-load-requires
 start-formed c κs =
     let e = c .before in
-    let a = e .before .before .before .before .args in
-    early-passed part34 plannable34 (a .start .now) (a .goal .now) (a .buf .now) 52 refl (e .refused-early .ensures) (c .if1 .left) .0
+    let pr = e .before in
+    let a = pr .before .before .before .before .args in
+    early-passed part34 plannable34 (a .start .now) (a .goal .now) (a .buf .now) (pr .plan-room34 .result) (pr .plan-room34 .ensures) (e .refused-early .ensures) (c .if1 .left) .0
 
 goal-formed : tie.Need-load-requires-2
 goal-formed c κs =
     let e = c .before .before in
-    let a = e .before .before .before .before .args in
-    early-passed part34 plannable34 (a .start .now) (a .goal .now) (a .buf .now) 52 refl (e .refused-early .ensures) (c .before .if1 .left) .1
+    let pr = e .before in
+    let a = pr .before .before .before .before .args in
+    early-passed part34 plannable34 (a .start .now) (a .goal .now) (a .buf .now) (pr .plan-room34 .result) (pr .plan-room34 .ensures) (e .refused-early .ensures) (c .before .if1 .left) .1
 
 returns-2 : tie.Need-returns-2
 returns-2 c =
@@ -35,38 +37,43 @@ returns-2 c =
     let l1 = l2 .before in
     let el = l1 .before in
     let e = el .before in
-    let a = e .before .before .before .before .args in
-    stuck-refused part34 plannable34 (a .start .now) (a .goal .now) (a .buf .now) 52 refl (early-passed part34 plannable34 (a .start .now) (a .goal .now) (a .buf .now) 52 refl (e .refused-early .ensures) (el .if1 .left)) (l1 .load .result) (l2 .load2 .result) (l1 .load .ensures) (l2 .load2 .ensures)
+    let pr = e .before in
+    let a = pr .before .before .before .before .args in
+    stuck-refused part34 plannable34 (a .start .now) (a .goal .now) (a .buf .now) (pr .plan-room34 .result) (pr .plan-room34 .ensures) (early-passed part34 plannable34 (a .start .now) (a .goal .now) (a .buf .now) (pr .plan-room34 .result) (pr .plan-room34 .ensures) (e .refused-early .ensures) (el .if1 .left)) (l1 .load .result) (l2 .load2 .result) (l1 .load .ensures) (l2 .load2 .ensures)
     (st .stuck-in .result) (omega (arith, st .stuck-in .ok)) (st .stuck-in .ensures) (c .if2 .taken)
 
 open-room : tie.Need-open-ports-requires
 open-room c κs =
     let el = c .before .before .before .before .before .before in
     let e = el .before in
-    let a = e .before .before .before .before .args in
-    early-passed part34 plannable34 (a .start .now) (a .goal .now) (a .buf .now) 52 refl (e .refused-early .ensures) (el .if1 .left) .2
+    let pr = e .before in
+    let a = pr .before .before .before .before .args in
+    early-passed part34 plannable34 (a .start .now) (a .goal .now) (a .buf .now) (pr .plan-room34 .result) (pr .plan-room34 .ensures) (e .refused-early .ensures) (el .if1 .left) .2
 
 start-read : tie.Need-shared-slice-read-put
 start-read c =
     let el = c .before .before .before .before .before .before .before .before .before .before .before in
     let e = el .before in
-    let a = e .before .before .before .before .args in
-    omega (arith, whole part34 plannable34 (a .start .now) (early-passed part34 plannable34 (a .start .now) (a .goal .now) (a .buf .now) 52 refl (e .refused-early .ensures) (el .if1 .left) .0))
+    let pr = e .before in
+    let a = pr .before .before .before .before .args in
+    omega (arith, whole part34 plannable34 (a .start .now) (early-passed part34 plannable34 (a .start .now) (a .goal .now) (a .buf .now) (pr .plan-room34 .result) (pr .plan-room34 .ensures) (e .refused-early .ensures) (el .if1 .left) .0))
 
 goal-read : tie.Need-shared-slice-read-put-2
 goal-read c =
     let el = c .before .before .before .before .before .before .before .before .before .before .before .before in
     let e = el .before in
-    let a = e .before .before .before .before .args in
-    omega (arith, whole part34 plannable34 (a .goal .now) (early-passed part34 plannable34 (a .start .now) (a .goal .now) (a .buf .now) 52 refl (e .refused-early .ensures) (el .if1 .left) .1))
+    let pr = e .before in
+    let a = pr .before .before .before .before .args in
+    omega (arith, whole part34 plannable34 (a .goal .now) (early-passed part34 plannable34 (a .start .now) (a .goal .now) (a .buf .now) (pr .plan-room34 .result) (pr .plan-room34 .ensures) (e .refused-early .ensures) (el .if1 .left) .1))
 
 put-room : tie.Need-put-requires
 put-room c κs =
     let op = c .before .before .before .before .before in
     let el = op .before .before .before .before .before .before .before in
     let e = el .before in
-    let a = e .before .before .before .before .args in
-    omega (arith, early-passed part34 plannable34 (a .start .now) (a .goal .now) (a .buf .now) 52 refl (e .refused-early .ensures) (el .if1 .left) .2, op .open-ports .ensures .1, same-room _ (a .buf .now) _ _ (op .open-ports .ensures .0))
+    let pr = e .before in
+    let a = pr .before .before .before .before .args in
+    omega (arith, early-passed part34 plannable34 (a .start .now) (a .goal .now) (a .buf .now) (pr .plan-room34 .result) (pr .plan-room34 .ensures) (e .refused-early .ensures) (el .if1 .left) .2, op .open-ports .ensures .1, same-room _ (a .buf .now) _ _ (op .open-ports .ensures .0))
 
 close-room : tie.Need-close-ports-requires
 close-room c κs =
@@ -74,9 +81,10 @@ close-room c κs =
     let op = put .before .before .before .before .before .before in
     let el = op .before .before .before .before .before .before .before in
     let e = el .before in
-    let a = e .before .before .before .before .args in
+    let pr = e .before in
+    let a = pr .before .before .before .before .args in
     let d = put .put .ensures .0 _ (a .buf .now) (op .open-ports .ensures .0) in
-    (omega (arith, op .open-ports .ensures .1, put .put .ensures .1), omega (arith, early-passed part34 plannable34 (a .start .now) (a .goal .now) (a .buf .now) 52 refl (e .refused-early .ensures) (el .if1 .left) .2, same-room _ (a .buf .now) _ _ d))
+    (omega (arith, op .open-ports .ensures .1, put .put .ensures .1), omega (arith, early-passed part34 plannable34 (a .start .now) (a .goal .now) (a .buf .now) (pr .plan-room34 .result) (pr .plan-room34 .ensures) (e .refused-early .ensures) (el .if1 .left) .2, same-room _ (a .buf .now) _ _ d))
 
 returns-3 : tie.Need-returns-3
 returns-3 c =
@@ -90,9 +98,10 @@ returns-3 c =
     let l1 = l2 .before in
     let el = l1 .before in
     let e = el .before in
-    let a = e .before .before .before .before .args in
+    let pr = e .before in
+    let a = pr .before .before .before .before .args in
     let d = put .put .ensures .0 _ (a .buf .now) (op .open-ports .ensures .0) in
-    laid-out part34 plannable34 (a .start .now) (a .goal .now) (a .buf .now) 52 refl (early-passed part34 plannable34 (a .start .now) (a .goal .now) (a .buf .now) 52 refl (e .refused-early .ensures) (el .if1 .left)) (l1 .load .result) (l2 .load2 .result) (l1 .load .ensures) (l2 .load2 .ensures)
+    laid-out part34 plannable34 (a .start .now) (a .goal .now) (a .buf .now) (pr .plan-room34 .result) (pr .plan-room34 .ensures) (early-passed part34 plannable34 (a .start .now) (a .goal .now) (a .buf .now) (pr .plan-room34 .result) (pr .plan-room34 .ensures) (e .refused-early .ensures) (el .if1 .left)) (l1 .load .result) (l2 .load2 .result) (l1 .load .ensures) (l2 .load2 .ensures)
     (st .stuck-in .result) (omega (arith, st .stuck-in .ok)) (st .stuck-in .ensures) (e2 .if2 .left) (mid .middle .result) (mid .middle .ensures) (cl .close-ports .result) _
     (cl .close-ports .ensures _ (a .buf .now) d)
 
@@ -100,6 +109,7 @@ pub plan34-spec : {M : Type 1} → statement M
 plan34-spec =
     tie.close
     (tie.spec
+    (λ c κs. search needs)
     (λ c κs. search needs)
     returns
     start-formed
