@@ -1,14 +1,16 @@
 -- What is taken of a line is what it says. Assumes nothing.
 use mathlib.Core.Path.{_≡_, refl, ap, sym, _∙_}
 use mathlib.Core.Bool.{Bool, true, false, cond, _&&_}
-use mathlib.Core.List.{List, [], _∷_, _++_, append-nil}
+use mathlib.Core.List.{List, [], _∷_}
 use Prim.Native.Nat.{ℕ, suc, _+_, _<_, _≤_}
 use native.Mathlib.Numerals.{add-one}
 use native.Mathlib.Omega.{arith}
 use borrow.Author.Tests.{ne-eqb, lt-ltb, le-ltb, ltb-true, ltb-false}
 use lib.Dec.{eqb, ltb}
-use lib.ListN.{length, set, drop-of-length-le}
-use lib.Seq.{sets, sets-eq}
+use lib.ListN.{length, set, take, drop}
+use lib.Seq.{sets, sets-eq, take-at}
+use Rattle.map.specs.Map.{Part}
+use Rattle.planner_quiet.specs.Settings.{registersOf}
 use Rattle.plan_lines.specs.declared.Field.{Field}
 use Rattle.plan_lines.specs.declared.Reading.{Reading}
 use Rattle.plan_lines.specs.Asks.{field, byteTaken, nothing, begun, takenAll, lineRefusal}
@@ -16,15 +18,15 @@ use Rattle.plan_lines.specs.Lines.{readable, startIn, goalIn}
 use Rattle.plan_lines.proofs.Taken.{bytesTaken, start-ended}
 
 -- ---- the bytes that are kept
-byte-kept : (f : Field) (v : ℕ) → f .count < 10 → byteTaken f v ≡ field (set (f .bytes) (f .count) v) (f .count + 1) 16
+byte-kept : (f : Field) (v : ℕ) → f .count < 16 → byteTaken f v ≡ field (set (f .bytes) (f .count) v) (f .count + 1) 16
 unfolding byteTaken
-byte-kept f v h = rw (lt-ltb (f .count) 10 h)
+byte-kept f v h = rw (lt-ltb (f .count) 16 h)
 
-byte-over : (f : Field) (v : ℕ) → 10 ≤ f .count → byteTaken f v ≡ field (f .bytes) 11 16
+byte-over : (f : Field) (v : ℕ) → 16 ≤ f .count → byteTaken f v ≡ field (f .bytes) 17 16
 unfolding byteTaken
-byte-over f v h = rw (le-ltb (f .count) 10 h)
+byte-over f v h = rw (le-ltb (f .count) 16 h)
 
-kept : (vs : List ℕ) (f : Field) → f .count + length vs ≤ 10
+kept : (vs : List ℕ) (f : Field) → f .count + length vs ≤ 16
     → (bytesTaken f vs .bytes ≡ sets (f .bytes) (f .count) vs) × (bytesTaken f vs .count ≡ f .count + length vs)
 kept [] f h = (refl, omega arith)
 kept (v ∷ vs) f h =
@@ -34,58 +36,62 @@ kept (v ∷ vs) f h =
       ap (λ (g : Field). bytesTaken g vs .count) on ∙ later .1 ∙ omega arith,
     )
 
--- from the eleventh on they are counted as 11
-counts-on : (f : Field) (v n : ℕ) → f .count ≤ 11 → 10 < f .count + suc n → (byteTaken f v .count ≤ 11) × (10 < byteTaken f v .count + n)
-counts-on f v n h l = go (ltb (f .count) 10) refl
+-- from the seventeenth on they are counted as 17
+counts-on : (f : Field) (v n : ℕ) → f .count ≤ 17 → 16 < f .count + suc n → (byteTaken f v .count ≤ 17) × (16 < byteTaken f v .count + n)
+counts-on f v n h l = go (ltb (f .count) 16) refl
   where
-    go : (t : Bool) → ltb (f .count) 10 ≡ t → (byteTaken f v .count ≤ 11) × (10 < byteTaken f v .count + n)
+    go : (t : Bool) → ltb (f .count) 16 ≡ t → (byteTaken f v .count ≤ 17) × (16 < byteTaken f v .count + n)
     go true t =
-        let few : f .count < 10 = ltb-true (f .count) 10 t in
+        let few : f .count < 16 = ltb-true (f .count) 16 t in
         let e : byteTaken f v .count ≡ f .count + 1 = ap (λ (g : Field). g .count) (byte-kept f v few) in
         (omega arith, omega arith)
     go false t =
-        let e : byteTaken f v .count ≡ 11 = ap (λ (g : Field). g .count) (byte-over f v (ltb-false (f .count) 10 t)) in
+        let e : byteTaken f v .count ≡ 17 = ap (λ (g : Field). g .count) (byte-over f v (ltb-false (f .count) 16 t)) in
         (omega arith, omega arith)
 
-over : (vs : List ℕ) (f : Field) → f .count ≤ 11 → 10 < f .count + length vs → bytesTaken f vs .count ≡ 11
+over : (vs : List ℕ) (f : Field) → f .count ≤ 17 → 16 < f .count + length vs → bytesTaken f vs .count ≡ 17
 over [] f h l = omega arith
 over (v ∷ vs) f h l = let c = counts-on f v (length vs) h l in over vs (byteTaken f v) (c .0) (c .1)
 
-counted : (vs : List ℕ) → eqb (bytesTaken nothing vs .count) 10 ≡ eqb (length vs) 10
-counted vs = go (ltb 10 (length vs)) refl
+counted : (m : ℕ) → m ≤ 16 → (vs : List ℕ) → eqb (bytesTaken nothing vs .count) m ≡ eqb (length vs) m
+counted m few vs = go (ltb 16 (length vs)) refl
   where
-    go : (t : Bool) → ltb 10 (length vs) ≡ t → eqb (bytesTaken nothing vs .count) 10 ≡ eqb (length vs) 10
+    go : (t : Bool) → ltb 16 (length vs) ≡ t → eqb (bytesTaken nothing vs .count) m ≡ eqb (length vs) m
     go true t =
-        let l : 10 < length vs = ltb-true 10 (length vs) t in
-        ap (λ (n : ℕ). eqb n 10) (over vs nothing (omega arith) (omega arith)) ∙ sym (ne-eqb (length vs) 10 (λ q. omega arith))
+        let l : 16 < length vs = ltb-true 16 (length vs) t in
+        let e = over vs nothing (omega arith) (omega arith) in
+        ne-eqb (bytesTaken nothing vs .count) m (λ q. omega (arith, e, q, few)) ∙ sym (ne-eqb (length vs) m (λ q. omega (arith, q, l, few)))
     go false t =
-        let l : length vs ≤ 10 = ltb-false 10 (length vs) t in
+        let l : length vs ≤ 16 = ltb-false 16 (length vs) t in
         let n : 0 + length vs ≡ length vs = omega arith in
-        ap (λ (k : ℕ). eqb k 10) (kept vs nothing (omega arith) .1 ∙ n)
+        ap (λ (k : ℕ). eqb k m) (kept vs nothing (omega arith) .1 ∙ n)
 
-ten-kept : (vs : List ℕ) → length vs ≡ 10 → bytesTaken nothing vs .bytes ≡ vs
-ten-kept vs all =
-    kept vs nothing (omega (arith, all)) .0 ∙ sets-eq vs (nothing .bytes) 0 (omega (arith, all))
-    ∙ ap (λ (s : List ℕ). vs ++ s) (drop-of-length-le (nothing .bytes) {i = 0 + length vs} (omega (arith, all))) ∙ append-nil vs
+all-kept : (m : ℕ) → m ≤ 16 → (vs : List ℕ) → length vs ≡ m → take m (bytesTaken nothing vs .bytes) ≡ vs
+all-kept m few vs all =
+    ap (take m) (kept vs nothing (omega (arith, all, few)) .0 ∙ sets-eq vs (nothing .bytes) 0 (omega (arith, all, few)))
+    ∙ take-at vs (drop (0 + length vs) (nothing .bytes)) m all
 
 -- ---- the line
-module _ (line : List ℕ) where
+module _ (p : Part) (few : length (registersOf p) ≤ 16) (line : List ℕ) where
+  abbrev m : ℕ
+  m = length (registersOf p)
+
   abbrev heard : Reading
   heard = takenAll begun line
 
-  pub refused-seven : readable line ≡ false → lineRefusal heard ≡ 7
+  pub refused-seven : readable line ≡ false → lineRefusal p heard ≡ 7
   unfolding lineRefusal
   refused-seven h = rw (start-ended line nothing refl .whole, h)
 
   module _ (h : readable line ≡ true) where
-    pub refused-five : lineRefusal heard ≡ cond (eqb (length (startIn line)) 10 && eqb (length (goalIn line)) 10) 0 5
+    pub refused-five : lineRefusal p heard ≡ cond (eqb (length (startIn line)) m && eqb (length (goalIn line)) m) 0 5
     unfolding lineRefusal
     refused-five =
         let e = start-ended line nothing refl in
-        rw (e .whole, h, e .is h, counted (startIn line), counted (goalIn line))
+        rw (e .whole, h, e .is h, counted m few (startIn line), counted m few (goalIn line))
 
-    pub start-heard : length (startIn line) ≡ 10 → heard .start .bytes ≡ startIn line
-    start-heard all = ap (λ (r : Reading). r .start .bytes) (start-ended line nothing refl .is h) ∙ ten-kept (startIn line) all
+    pub start-heard : length (startIn line) ≡ m → take m (heard .start .bytes) ≡ startIn line
+    start-heard all = ap (λ (r : Reading). take m (r .start .bytes)) (start-ended line nothing refl .is h) ∙ all-kept m few (startIn line) all
 
-    pub goal-heard : length (goalIn line) ≡ 10 → heard .goal .bytes ≡ goalIn line
-    goal-heard all = ap (λ (r : Reading). r .goal .bytes) (start-ended line nothing refl .is h) ∙ ten-kept (goalIn line) all
+    pub goal-heard : length (goalIn line) ≡ m → take m (heard .goal .bytes) ≡ goalIn line
+    goal-heard all = ap (λ (r : Reading). take m (r .goal .bytes)) (start-ended line nothing refl .is h) ∙ all-kept m few (goalIn line) all

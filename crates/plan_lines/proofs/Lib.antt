@@ -1,5 +1,6 @@
-pub mod Taken
-pub mod Heard
-pub mod Writing
 pub mod Answering
+pub mod Heard
+pub mod Parts
+pub mod Taken
 pub mod Whole
+pub mod Writing

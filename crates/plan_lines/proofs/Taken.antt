@@ -59,7 +59,7 @@ module _ (f : Field) (whole : f .high ≡ 16) where
 
 byte-whole : (f : Field) (v : ℕ) → byteTaken f v .high ≡ 16
 unfolding byteTaken
-byte-whole f v = either-arm (λ (x : Field). x .high ≡ 16) (ltb (f .count) 10) refl refl
+byte-whole f v = either-arm (λ (x : Field). x .high ≡ 16) (ltb (f .count) 16) refl refl
 
 -- ---- a line that is spoiled stays so
 abbrev pub wholeIn : Reading → Bool

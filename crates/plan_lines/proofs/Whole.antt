@@ -10,10 +10,12 @@ use lib.ListN.{length, getD}
 use Rattle.bits.proofs.Decide.{each, eachBool}
 use Rattle.text.specs.Text.{digitOf, digitByte, hexText}
 use Rattle.text_answers.specs.Answers.{refusedLine}
-use Rattle.map.specs.Map.{part24}
+use Rattle.map.specs.Map.{Part}
+use Rattle.planner_quiet.specs.Settings.{registersOf}
+use Rattle.planner_promise.specs.Formed.{roomFor}
 use Rattle.planner_promise.specs.Answer.{answerOf}
 use Rattle.plan_lines.specs.Lines.{hasTab, beforeTab, afterTab, isDigit, inPairs, bytesIn, spelled, readable, startIn, goalIn}
-use Rattle.plan_lines.specs.Told.{room, answerTo, answerText, planText}
+use Rattle.plan_lines.specs.Told.{answerTo, answerText, planText}
 use Rattle.plan_lines.proofs.Answering.{five-start, five-goal}
 
 -- a digit's byte, tried at each
@@ -54,30 +56,30 @@ parted (b ∷ s) t =
     let low = digit-not-tab (b % 16) (omega arith) in
     (rw (high, low) (later .0), rw (high, low, later .1), rw (high, low) (later .2))
 
-module _ (start goal : List ℕ) (of-start : Bytes start) (of-goal : Bytes goal) where
+module _ (p : Part) (start goal : List ℕ) (of-start : Bytes start) (of-goal : Bytes goal) where
   abbrev line : List ℕ
   line = spelled start ++ (0x09 ∷ spelled goal)
 
   -- the theorem: the line is readable and says these settings, of however many bytes
   pub line-says : (readable line ≡ true) × (startIn line ≡ start) × (goalIn line ≡ goal)
   line-says =
-      let p = parted start (spelled goal) in
+      let q = parted start (spelled goal) in
       let s = pairs-said start of-start in
       let g = pairs-said goal of-goal in
-      (rw (p .0, p .1, p .2, s .0, g .0), rw (p .1) (s .1), rw (p .2) (g .1))
+      (rw (q .0, q .1, q .2, s .0, g .0), rw (q .1) (s .1), rw (q .2) (g .1))
 
   -- and its answer is the planner's to them
-  pub line-answered : answerTo line ≡ answerOf part24 start goal room
+  pub line-answered : answerTo p line ≡ answerOf p start goal (roomFor p)
   unfolding answerTo
   line-answered = let e = line-says in rw (e .0, e .1, e .2)
 
-  pub line-text : planText line ≡ answerText (answerOf part24 start goal room)
+  pub line-text : planText p line ≡ answerText (answerOf p start goal (roomFor p))
   unfolding planText
   line-text = ap answerText line-answered
 
-  -- which is refusal 5 where a start or a goal is not ten bytes
-  pub start-not-ten : (length start ≡ 10 → ⊥) → planText line ≡ refusedLine 5
-  start-not-ten h = line-text ∙ ap answerText (five-start start goal room (ne-eqb (length start) 10 h))
+  -- which is refusal 5 where a start or a goal is not a byte for each register
+  pub start-not-whole : (length start ≡ length (registersOf p) → ⊥) → planText p line ≡ refusedLine 5
+  start-not-whole h = line-text ∙ ap answerText (five-start p start goal (roomFor p) (ne-eqb (length start) (length (registersOf p)) h))
 
-  pub goal-not-ten : (length goal ≡ 10 → ⊥) → planText line ≡ refusedLine 5
-  goal-not-ten h = line-text ∙ ap answerText (five-goal start goal room (ne-eqb (length goal) 10 h))
+  pub goal-not-whole : (length goal ≡ length (registersOf p) → ⊥) → planText p line ≡ refusedLine 5
+  goal-not-whole h = line-text ∙ ap answerText (five-goal p start goal (roomFor p) (ne-eqb (length goal) (length (registersOf p)) h))

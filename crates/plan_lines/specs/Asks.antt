@@ -4,17 +4,19 @@ use mathlib.Core.Bool.{Bool, true, false, cond, not, _&&_}
 use mathlib.Core.List.{List, [], _∷_}
 use Prim.Native.Nat.{ℕ, _+_, _*_, _%_}
 use lib.Dec.{eqb, ltb}
-use lib.ListN.{set}
+use lib.ListN.{length, set, replicate}
 use Rattle.text.specs.Text.{digitOf}
+use Rattle.map.specs.Map.{Part}
+use Rattle.planner_quiet.specs.Settings.{registersOf}
 use Rattle.plan_lines.specs.declared.Field.{Field}
 use Rattle.plan_lines.specs.declared.Reading.{Reading}
 
 abbrev pub field : List ℕ → (count high : ℕ) → Field
 field bytes count high = record { bytes = bytes; count = count; high = high }
 
--- A pair of digits is whole: the first ten bytes are kept, and from the eleventh on they are only counted, as 11.
+-- A pair of digits is whole: the first sixteen bytes are kept, and from there on they are only counted, as 17.
 unfoldable pub byteTaken : Field → (v : ℕ) → Field
-byteTaken f v = cond (ltb (f .count) 10) (field (set (f .bytes) (f .count) v) (f .count + 1) 16) (field (f .bytes) 11 16)
+byteTaken f v = cond (ltb (f .count) 16) (field (set (f .bytes) (f .count) v) (f .count + 1) 16) (field (f .bytes) 17 16)
 
 -- A digit: the first of a pair waits, 16 says that none waits.
 unfoldable pub digitTaken : Field → (d : ℕ) → Field
@@ -25,7 +27,7 @@ reading start goal tabs bad = record { start = start; goal = goal; tabs = tabs; 
 
 -- Before the first byte of a line.
 abbrev pub nothing : Field
-nothing = field (0 ∷ 0 ∷ 0 ∷ 0 ∷ 0 ∷ 0 ∷ 0 ∷ 0 ∷ 0 ∷ 0 ∷ []) 0 16
+nothing = field (replicate 16 0) 0 16
 
 abbrev pub begun : Reading
 begun = reading nothing nothing 0 false
@@ -41,11 +43,11 @@ taken r b =
     cond (eqb b 0x09) (reading (r .start) (r .goal) (cond (ltb (r .tabs) 2) (r .tabs + 1) 2) (r .bad))
     (cond (ltb (digitOf b) 16) (withDigit r (digitOf b)) (reading (r .start) (r .goal) (r .tabs) true))
 
--- What the line is refused for before the planner is asked: 7 if it is not two fields of whole pairs, 5 if one is not ten bytes; 0 is nothing.
-unfoldable pub lineRefusal : Reading → ℕ
-lineRefusal r =
+-- What the line is refused for before the planner is asked: 7 if it is not two fields of whole pairs, 5 if one is not a byte for each register of the part's setting; 0 is nothing.
+unfoldable pub lineRefusal : Part → Reading → ℕ
+lineRefusal p r =
     cond (((not (r .bad) && eqb (r .tabs) 1) && eqb (r .start .high) 16) && eqb (r .goal .high) 16)
-    (cond (eqb (r .start .count) 10 && eqb (r .goal .count) 10) 0 5) 7
+    (cond (eqb (r .start .count) (length (registersOf p)) && eqb (r .goal .count) (length (registersOf p))) 0 5) 7
 
 -- All bytes of a part.
 unfoldable pub takenAll : Reading → (part : List ℕ) → Reading

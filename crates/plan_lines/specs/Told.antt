@@ -6,19 +6,16 @@ use Prim.Native.Nat.{ℕ, _*_}
 use lib.ListN.{take}
 use Rattle.text.specs.Text.{hexText, Wrote}
 use Rattle.text_answers.specs.Answers.{refusedLine}
-use Rattle.map.specs.Map.{part24}
+use Rattle.map.specs.Map.{Part}
 use Rattle.planner_quiet.specs.Settings.{Write}
+use Rattle.planner_promise.specs.Formed.{roomFor}
 use Rattle.planner_promise.specs.Answer.{Answer, refuse, give, answerOf}
 use Rattle.planner_promise.specs.declared.Planned.{Planned}
 use Rattle.plan_lines.specs.Lines.{readable, startIn, goalIn}
 
--- room for a plan of sixteen writes
-abbrev pub room : ℕ
-room = 32
-
 -- the planner's answer to the settings that the line says; refusal 7 where it is not readable
-unfoldable pub answerTo : (line : List ℕ) → Answer
-answerTo line = cond (readable line) (answerOf part24 (startIn line) (goalIn line) room) (refuse 7)
+unfoldable pub answerTo : Part → (line : List ℕ) → Answer
+answerTo p line = cond (readable line) (answerOf p (startIn line) (goalIn line) (roomFor p)) (refuse 7)
 
 -- ---- the answer as text
 -- a write: a tab, its register, its value
@@ -38,8 +35,8 @@ answerText (refuse number) = refusedLine number
 answerText (give ws) = planLine (writesText ws)
 
 -- What standard output gets for a whole line.
-unfoldable pub planText : (line : List ℕ) → List ℕ
-planText line = answerText (answerTo line)
+unfoldable pub planText : Part → (line : List ℕ) → List ℕ
+planText p line = answerText (answerTo p line)
 
 -- the number that a person is told of: that of the refusal, 0 for a plan
 abbrev pub refusalIn : Answer → ℕ
@@ -57,6 +54,6 @@ plannedText (Planned.Writes n) pairs = planLine (pairsText (take (2 * n) pairs))
 plannedText (Planned.Refused number) pairs = refusedLine number
 
 -- the line's answer is written from at on, and its refusal's number told
-pub record Tells (line : List ℕ) (out : List ℕ) (at end refusal : ℕ) (left : List ℕ) : Type 0 where
-  pub wrote : Wrote out at (planText line) end left
-  pub told : refusal ≡ refusalIn (answerTo line)
+pub record Tells (p : Part) (line : List ℕ) (out : List ℕ) (at end refusal : ℕ) (left : List ℕ) : Type 0 where
+  pub wrote : Wrote out at (planText p line) end left
+  pub told : refusal ≡ refusalIn (answerTo p line)

@@ -3,17 +3,20 @@
 ghost use mathlib.Core.Path.{_≡_};
 ghost use mathlib.Core.List.{List, [], _++_};
 ghost use Prim.Native.Nat.{ℕ, _+_, _*_, _<_, _≤_};
-ghost use lib.ListN.{length};
+ghost use lib.ListN.{length, take};
 ghost use Rattle.text.specs.Text.{Wrote};
 ghost use Rattle.text_answers.specs.Answers.{refusedLine};
+ghost use Rattle.map.specs.Map.{partOf};
+ghost use Rattle.planner_quiet.specs.Settings.{registersOf};
+ghost use Rattle.planner_promise.specs.Answer.{answerOf, Answers};
 ghost use Rattle.planner_promise.specs.Promise.{refusalOf, countOf};
 ghost use Rattle.plan_lines.specs.Asks.{byteTaken, digitTaken, withDigit, taken, lineRefusal, Holds, Said};
 ghost use Rattle.plan_lines.specs.Told.{writeText, pairsText, planLine, plannedText, Tells};
 use planner_promise::Planned;
 
-// One field of the line: its first ten bytes, how many there are (11 for more), the digit that waits (16 for none).
+// One field of the line: its first sixteen bytes, how many there are (17 for more), the digit that waits (16 for none).
 pub struct Field {
-    pub bytes: [u8; 10],
+    pub bytes: [u8; 16],
     pub count: u8,
     pub high: u8,
 }
@@ -31,13 +34,13 @@ fn byte_taken(mut f: Field, v: u8) -> Field
 {
     let count = f.count;
     f.high = 16;
-    if count < 10 {
+    if count < 16 {
         let at = count as usize;
         f.bytes[at] = v;
         f.count = count + 1;
         return f;
     }
-    f.count = 11;
+    f.count = 17;
     f
 }
 
@@ -57,7 +60,7 @@ fn digit_taken(mut f: Field, d: u8) -> Field
 pub fn begin() -> Reading
     ensures { λ r. ⌜ Holds r [] × Said r ⌝ }
 {
-    let none = [0u8; 10];
+    let none = [0u8; 16];
     let empty = Field {
         bytes: none,
         count: 0,
@@ -131,16 +134,27 @@ pub fn grow(r: Reading, part: &[u8]) -> Reading
     reading
 }
 
-// What the line is refused for before the planner is asked; 0 for nothing.
-fn line_refusal(r: Reading) -> u8
-    ensures { λ n. ⌜ n ≡ lineRefusal r ⌝ }
+// How many bytes a setting of the part has.
+fn setting_bytes(part: u8) -> u8
+    ensures { λ r. ⌜ (r ≡ length (registersOf (partOf part))) × (r ≤ 16) ⌝ }
 {
+    if part == 0 {
+        return 10;
+    }
+    16
+}
+
+// What the line is refused for before the planner is asked; 0 for nothing.
+fn line_refusal(part: u8, r: Reading) -> u8
+    ensures { λ n. ⌜ n ≡ lineRefusal (partOf part) r ⌝ }
+{
+    let bytes = setting_bytes(part);
     let start = r.start;
     let goal = r.goal;
     let whole = !r.bad & (r.tabs == 1) & (start.high == 16) & (goal.high == 16);
     if whole {
-        if start.count == 10 {
-            if goal.count == 10 {
+        if start.count == bytes {
+            if goal.count == bytes {
                 return 0;
             }
             return 5;
@@ -183,16 +197,16 @@ fn put_writes(out: &mut [u8], at: usize, pairs: &[u8]) -> usize
 
 // The line of a plan.
 fn put_plan(out: &mut [u8], at: usize, pairs: &[u8]) -> usize
-    requires { ⌜ (length (now pairs) ≤ 32) × (at + 85 ≤ length (now out)) ⌝ }
-    ensures { λ r. ⌜ Wrote (now (out .entry)) at (planLine (pairsText (now (pairs .entry)))) r (now (out .exit)) × (r ≤ at + 85) ⌝ }
+    requires { ⌜ (length (now pairs) ≤ 52) × (at + 135 ≤ length (now out)) ⌝ }
+    ensures { λ r. ⌜ Wrote (now (out .entry)) at (planLine (pairsText (now (pairs .entry)))) r (now (out .exit)) × (r ≤ at + 135) ⌝ }
 {
     let word = text::put(out, at, b"plan");
     let end = put_writes(out, word, pairs);
     text::put(out, end, b"\n")
 }
 
-// An answer's room: `plan`, sixteen writes and a newline.
-pub const ROOM: usize = 85;
+// An answer's room: `plan`, the sister's 26 writes and a newline.
+pub const ROOM: usize = 135;
 
 // Where an answer ends, and the number of its refusal, 0 for a plan.
 pub struct Told {
@@ -202,9 +216,9 @@ pub struct Told {
 
 // What the planner answered, with the writes that it laid.
 fn put_planned(out: &mut [u8], at: usize, planned: Planned, pairs: &[u8]) -> Told
-    requires { ⌜ (countOf planned ≤ 16) × (length (now pairs) ≡ 32) × (at + 85 ≤ length (now out)) ⌝ }
+    requires { ⌜ (countOf planned ≤ 26) × (length (now pairs) ≡ 52) × (at + 135 ≤ length (now out)) ⌝ }
     ensures { λ t. ⌜ Wrote (now (out .entry)) at (plannedText planned (now (pairs .entry))) (t .end) (now (out .exit))
-        × (t .refusal ≡ refusalOf planned) × (t .end ≤ at + 85) ⌝ }
+        × (t .refusal ≡ refusalOf planned) × (t .end ≤ at + 135) ⌝ }
 {
     match planned {
         Planned::Writes(n) => {
@@ -221,12 +235,23 @@ fn put_planned(out: &mut [u8], at: usize, planned: Planned, pairs: &[u8]) -> Tol
     }
 }
 
-// The whole line's answer, written from at on.
-pub fn answer(r: Reading, out: &mut [u8], at: usize) -> Told
-    requires { ⌜ Said r × (at + 85 ≤ length (now out)) ⌝ }
-    ensures { λ t. ⌜ ((line : List ℕ) → Holds r line → Tells line (now (out .entry)) at (t .end) (t .refusal) (now (out .exit))) × (t .end ≤ at + 85) ⌝ }
+// The part's planner is asked; either one's plan fits.
+fn asked(part: u8, start: &[u8], goal: &[u8], pairs: &mut [u8]) -> Planned
+    requires { ⌜ (length (now start) ≡ 16) × (length (now goal) ≡ 16) × (length (now pairs) ≡ 52) ⌝ }
+    ensures { λ r. ⌜ Answers r (now (pairs .entry)) (now (pairs .exit)) (answerOf (partOf part) (take (length (registersOf (partOf part))) (now (start .entry))) (take (length (registersOf (partOf part))) (now (goal .entry))) 52) ⌝ }
 {
-    let number = line_refusal(r);
+    if part == 0 {
+        return planner::plan(&start[0..10], &goal[0..10], pairs);
+    }
+    planner::plan34(start, goal, pairs)
+}
+
+// The whole line's answer, written from at on.
+pub fn answer(part: u8, r: Reading, out: &mut [u8], at: usize) -> Told
+    requires { ⌜ Said r × (at + 135 ≤ length (now out)) ⌝ }
+    ensures { λ t. ⌜ ((line : List ℕ) → Holds r line → Tells (partOf part) line (now (out .entry)) at (t .end) (t .refusal) (now (out .exit))) × (t .end ≤ at + 135) ⌝ }
+{
+    let number = line_refusal(part, r);
     if number != 0 {
         return Told {
             end: put_refusal(out, at, number),
@@ -237,7 +262,7 @@ pub fn answer(r: Reading, out: &mut [u8], at: usize) -> Told
     let second = r.goal;
     let start = first.bytes;
     let goal = second.bytes;
-    let mut pairs = [0u8; 32];
-    let planned = planner::plan(&start, &goal, &mut pairs);
+    let mut pairs = [0u8; 52];
+    let planned = asked(part, &start, &goal, &mut pairs);
     put_planned(out, at, planned, &pairs)
 }

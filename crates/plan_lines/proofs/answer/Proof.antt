@@ -1,11 +1,12 @@
 -- `plan_lines::answer`: refused by the line, or as the planner answers (`Answering`). Assumes nothing.
 use native.Mathlib.Omega.{arith}
 use borrow.Author.Needs.{needs}
-use mathlib.Core.Path.{_≡_, refl}
-use lib.ListN.{length, replicate}
-use Rattle.map.specs.Map.{part24}
+use mathlib.Core.Path.{_≡_}
+use lib.ListN.{length, replicate, take}
+use Rattle.map.specs.Map.{partOf}
+use Rattle.planner_quiet.specs.Settings.{registersOf}
 use Rattle.planner_promise.specs.Answer.{answerOf}
-use Rattle.plan_lines.specs.Told.{room}
+use Rattle.plan_lines.proofs.Parts.{few-bytes, roomy}
 use Rattle.plan_lines.proofs.Answering.{few-writes, refused-tells, planned-tells}
 use Rattle.plan_lines.proofs.answer.Statement.{statement}
 use Rattle.plan_lines.proofs.answer.Tie as tie
@@ -15,18 +16,21 @@ returns c =
     let p = c .before .before in
     let t = p .before .before in
     let l = t .before in
-    let s = l .before .before in (
-      λ line held. refused-tells line (s .args .r) held (l .line-refusal .result) (l .line-refusal .ensures) (t .if1 .taken) (p .put-refusal .ensures .0),
+    let s = l .before .before in
+    let n = s .args .part in (
+      λ line held.
+          refused-tells (partOf n) (few-bytes n) line (s .args .r) held (l .line-refusal .result) (l .line-refusal .ensures) (t .if1 .taken) (p .put-refusal .ensures .0),
       omega (arith, p .put-refusal .ensures .1),
     )
 
 put-planned-requires : tie.Need-put-planned-requires
 put-planned-requires c κs =
     let p = c .before .before .before in
-    let all : length (p .plan .last .1 .1 .0) ≡ 32 = search needs in
+    let all : length (p .asked .last .1 .1 .1 .0) ≡ 52 = search needs in
     let s = p .before .before .before .before .before .before .before .before .before .before .before in
     let r = s .args .r in
-    (few-writes (p .plan .result) (replicate room 0) _ (answerOf part24 (r .start .bytes) (r .goal .bytes) room) (p .plan .ensures .0) all, all, search needs)
+    let m = length (registersOf (partOf (s .args .part))) in
+    (few-writes (p .asked .result) (replicate 52 0) _ (answerOf (partOf (s .args .part)) (take m (r .start .bytes)) (take m (r .goal .bytes)) 52) (p .asked .ensures) all, all, search needs)
 
 returns-2 : tie.Need-returns-2
 returns-2 c =
@@ -34,10 +38,11 @@ returns-2 c =
     let p = q .before .before .before .before in
     let e = p .before .before .before .before .before .before .before .before in
     let l = e .before in
-    let s = l .before .before in (
+    let s = l .before .before in
+    let n = s .args .part in (
       λ line held.
-          planned-tells line (s .args .r) held (l .line-refusal .result) (l .line-refusal .ensures) (e .if1 .left) (p .plan .result) (replicate room 0) _ refl (p .plan .ensures .0) (q .put-planned .ensures .0)
-          (q .put-planned .ensures .1),
+          planned-tells (partOf n) (few-bytes n) line (s .args .r) held (l .line-refusal .result) (l .line-refusal .ensures) (e .if1 .left) (p .asked .result) (replicate 52 0) _ 52
+          (roomy n _ _) (p .asked .ensures) (q .put-planned .ensures .0) (q .put-planned .ensures .1),
       q .put-planned .ensures .2,
     )
 

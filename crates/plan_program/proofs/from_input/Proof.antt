@@ -1,16 +1,16 @@
--- `plan::from_input`: the reading goes on from piece to piece; it ends after as many turns as a number has. Assumes nothing.
+-- `plan_program::from_input`: the reading goes on from piece to piece; it ends after as many turns as a number has. Assumes nothing.
 use borrow.Author.Needs.{needs}
 use mathlib.Core.Path.{_≡_}
 use lib.ListN.{length}
 use Rattle.plan_lines.specs.Asks.{Said}
-use Rattle.plan.proofs.from_input.Statement.{statement}
-use Rattle.plan.proofs.from_input.Tie as tie
+use Rattle.plan_program.proofs.from_input.Statement.{statement}
+use Rattle.plan_program.proofs.from_input.Tie as tie
 
 abbrev Inv-loop : tie.InvT-loop
-Inv-loop piece₀ lines₀ turns₀ piece lines turns = (4096 ≡ length piece) × Said (lines .reading)
+Inv-loop part piece₀ lines₀ turns₀ piece lines turns = (4096 ≡ length piece) × Said (lines .reading)
 
 abbrev μ-loop : tie.MeasureT-loop
-μ-loop piece₀ lines₀ turns₀ piece lines turns = turns
+μ-loop part piece₀ lines₀ turns₀ piece lines turns = turns
 
 pub from-input-spec : {M : Type 1} → statement M
 from-input-spec =

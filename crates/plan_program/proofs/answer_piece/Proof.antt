@@ -1,17 +1,17 @@
--- `plan::answer_piece`: each turn takes a line off the piece, with its newline where that is there. Assumes nothing.
+-- `plan_program::answer_piece`: each turn takes a line off the piece, with its newline where that is there. Assumes nothing.
 use borrow.Author.Needs.{needs}
 use Prim.Native.Nat.{_≤_}
 use lib.ListN.{length}
 use Rattle.text_pieces.proofs.Laws.{rest-less}
 use Rattle.plan_lines.specs.Asks.{Said}
-use Rattle.plan.proofs.answer_piece.Statement.{statement}
-use Rattle.plan.proofs.answer_piece.Tie as tie
+use Rattle.plan_program.proofs.answer_piece.Statement.{statement}
+use Rattle.plan_program.proofs.answer_piece.Tie as tie
 
 abbrev Inv-loop : tie.InvT-loop
-Inv-loop piece reading₀ any₀ rest₀ reading any rest = (length rest ≤ length piece) × Said reading
+Inv-loop part piece reading₀ any₀ rest₀ reading any rest = (length rest ≤ length piece) × Said reading
 
 abbrev μ-loop : tie.MeasureT-loop
-μ-loop piece reading₀ any₀ rest₀ reading any rest = length rest
+μ-loop part piece reading₀ any₀ rest₀ reading any rest = length rest
 
 pub answer-piece-spec : {M : Type 1} → statement M
 answer-piece-spec =
