@@ -11,7 +11,7 @@ use Rattle.device_rules.specs.Device.{State, out}
 use Rattle.device_rules.specs.Refusals.{imageFits, stepped}
 use Rattle.device_rules.specs.declared.Answer.the-variants.{Refused}
 use Rattle.device_rules.proofs.Images.{broken}
-use Rattle.words_bus.specs.Packed.{stateIn}
+use Rattle.words_state.specs.Packed.{stateIn}
 use Rattle.words_images.specs.Images.{Packs}
 use Rattle.device.specs.Held.{fitsIn, steppedIn}
 use Rattle.device.specs.Held as held

@@ -24,7 +24,7 @@ use Rattle.planner_promise.specs.Answer.Answer.{refuse, give}
 use Rattle.planner_promise.specs.Promise.{refusalOf, countOf, Promise}
 use Rattle.planner_promise.specs.declared.Planned.{Planned}
 use Rattle.words.specs.Words.{fileOf, setsIn, interruptIn}
-use Rattle.words_bus.specs.Packed.{stateIn, Packed, Steps}
+use Rattle.words_state.specs.Packed.{stateIn, Packed, Steps}
 use Rattle.words_images.specs.Images.{Packs}
 use Rattle.host_words.specs.Host.{toldAs, Told, Made, Seen, Shown, FromImage, ToImage, writesAfter, plannedAs, countIn}
 

@@ -15,7 +15,7 @@ use Rattle.device_rules.specs.Refusals.{imageFits, stepped}
 use Rattle.device_rules.specs.PowerOn.{powerOn, makingRefused}
 use Rattle.planner_promise.specs.Promise.{countOf}
 use Rattle.planner_promise.specs.declared.Planned.{Planned}
-use Rattle.words_bus.specs.Packed.{stateIn, Packed}
+use Rattle.words_state.specs.Packed.{stateIn, Packed}
 
 -- the answer's kind and byte; a refusal leaves what was lent for them as it was
 abbrev pub toldAs : Answer → (lent : List ℕ) → List ℕ

@@ -3,7 +3,7 @@ ghost use mathlib.Core.Path.{_≡_};
 ghost use mathlib.Core.Bool.{cond};
 ghost use Rattle.device_rules.specs.Answers.{refusalNumber};
 ghost use Rattle.planner_promise.specs.Promise.{refusalOf};
-ghost use Rattle.words_bus.specs.Packed.{answerAt};
+ghost use Rattle.words_state.specs.Packed.{answerAt};
 ghost use Rattle.host_words.specs.Host.{toldAs, writesAfter};
 use planner_promise::Planned;
 
@@ -19,7 +19,7 @@ pub fn tell(number: u32, told: &mut [u8; 2]) -> u32
     if READ < kind {
         return number / 256 % 256;
     }
-    let byte = words_bus::byte_read(number);
+    let byte = words_state::byte_read(number);
     *told = [kind as u8, byte];
     0
 }

@@ -13,7 +13,7 @@ use Rattle.text.proofs.Laws.{wrote-as, wrote-both, wrote-nothing, wrote-length}
 use Rattle.text_pieces.specs.Pieces.{newlineAt, takenOf}
 use Rattle.trace_lines.specs.Lines.{lineOf}
 use Rattle.trace_lines.proofs.Laws.{rest as tail}
-use Rattle.words_bus.specs.Packed.{partWord}
+use Rattle.words_state.specs.Packed.{partWord}
 use Rattle.trace_session.specs.Tracing.{Session, partIn, traced, answerTo, sessionOf, Kept, Says}
 use Rattle.trace_session.proofs.Laws.{says-as, traced-short, answer-short}
 use Rattle.trace_logs.specs.Pieces.{Reading, Given, readingOf, grown, answerOf, ended, andThen, given, firstGiven, heldAfter, Gives, Ends}

@@ -7,7 +7,7 @@ use lib.Dec.{eqb, ltb}
 use lib.ListN.{length, getD, take, drop}
 use Rattle.text.specs.Text.{Wrote}
 use Rattle.text_pieces.specs.Pieces.{newlineAt}
-use Rattle.words_bus.specs.Packed.{partWord}
+use Rattle.words_state.specs.Packed.{partWord}
 use Rattle.trace_session.specs.Tracing.{Session, Traced, answerTo, sessionOf, Kept}
 use Rattle.trace_session.specs.Tracing.Session.{NoDevice}
 use Rattle.trace_logs.specs.Logs.{header}

@@ -23,7 +23,7 @@ use Rattle.words.specs.Words.{coreIn, interruptIn}
 use Rattle.words.proofs.Sound.{sound}
 use Rattle.words.proofs.Showing.{one-pin}
 use Rattle.words_rows.specs.Rows.{Rowed}
-use Rattle.words_bus.specs.Packed.{stateIn, Packed}
+use Rattle.words_state.specs.Packed.{stateIn, Packed}
 use Rattle.words_device.specs.Named.{Named}
 use Rattle.words_device.proofs.Naming.{named}
 use Rattle.text.specs.Text.{Wrote}

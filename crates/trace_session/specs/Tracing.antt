@@ -13,7 +13,7 @@ use Rattle.device_rules.specs.Refusals.{stepped}
 use Rattle.device_rules.specs.PowerOn.{powerOn}
 use Rattle.words.specs.Words.{coreIn, lineWord, configurationWord, outputWord, portKindWord, pinKindWord}
 use Rattle.words_rows.specs.Rows.{Rowed}
-use Rattle.words_bus.specs.Packed.{partWord, stateIn, Packed}
+use Rattle.words_state.specs.Packed.{partWord, stateIn, Packed}
 use Rattle.words_device.specs.Named.{Named}
 use Rattle.text.specs.Text.{Wrote}
 use Rattle.trace_lines.specs.declared.Line.{Line}

@@ -122,7 +122,7 @@ fn event(
 {
     if words[PART] < NO_PART {
         let pins = map::pins_of(words[PART]);
-        let answer = words_bus::answer(words_device::event_by(
+        let answer = words_state::answer(words_device::event_by(
             words,
             &*rows,
             &*next,

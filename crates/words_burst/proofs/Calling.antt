@@ -10,7 +10,7 @@ use lib.Dec.{eqb, ltb}
 use lib.ListN.{length}
 use Rattle.bits.proofs.Decide.{clash}
 use Rattle.map.specs.Map.{partOf}
-use Rattle.words_bus.specs.Packed.{stateIn, Packed}
+use Rattle.words_state.specs.Packed.{stateIn, Packed}
 use Rattle.words_burst.specs.Burst.{sentOf, ran, eight, Left, Bursts}
 
 or-left : (a b : Bool) → (a || b) ≡ false → a ≡ false

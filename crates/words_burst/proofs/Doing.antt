@@ -12,9 +12,9 @@ use Rattle.device_rules.specs.Device.{State, Outcome, out}
 use Rattle.device_rules.specs.Refusals.{imageFits, stepped}
 use Rattle.device_rules.specs.declared.Answer.{Answer}
 use Rattle.device_rules.specs.declared.Answer.the-variants.{Refused}
-use Rattle.words_bus.specs.Packed.{stateIn, Packed, Leaves}
-use Rattle.words_bus.proofs.Judging.{image-fits, image}
-use Rattle.words_bus.proofs.Left.{left-same, by-rule}
+use Rattle.words_state.specs.Packed.{stateIn, Packed, Leaves}
+use Rattle.words_state.proofs.Judging.{image-fits, image}
+use Rattle.words_state.proofs.Left.{left-same, by-rule}
 use Rattle.words_burst.specs.Burst.{Sent, halved, wholeOf, one}
 
 -- pins past the lower half of an argument are those of a part that takes the upper half

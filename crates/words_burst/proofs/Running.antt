@@ -17,7 +17,7 @@ use Rattle.device_rules.specs.Answers.{answerKind, answerByte}
 use Rattle.device_rules.proofs.Answer.{the-type}
 use Rattle.device_rules.specs.declared.Answer.{Answer}
 use Rattle.device_rules.specs.declared.Answer.the-variants.{Nothing, Ack, Nak, Byte, Refused}
-use Rattle.words_bus.specs.Packed.{stateIn, Packed, Leaves}
+use Rattle.words_state.specs.Packed.{stateIn, Packed, Leaves}
 use Rattle.words_burst.specs.Burst.{Sent, eventAt, sentOf, one, Ran, ended, onto, twoOf, afterOne, ran, Left}
 use Rattle.words_burst.proofs.Doing.{refused-same}
 

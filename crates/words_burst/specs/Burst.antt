@@ -11,7 +11,7 @@ use Rattle.device_rules.specs.Refusals.{imageFits, stepped}
 use Rattle.device_rules.specs.Answers.{answerKind, answerByte, refusalNumber}
 use Rattle.device_rules.specs.declared.Answer.{Answer}
 use Rattle.device_rules.specs.declared.Answer.the-variants.{Refused}
-use Rattle.words_bus.specs.Packed.{stateIn, Packed}
+use Rattle.words_state.specs.Packed.{stateIn, Packed}
 
 -- ---- the events out of the bytes
 -- four bytes from a place on, lowest first

@@ -7,12 +7,12 @@ ghost use lib.ListN.{length, getD, set};
 ghost use Rattle.map.specs.Map.{partOf};
 ghost use Rattle.device_rules.specs.Answers.{answerKind, answerByte};
 ghost use Rattle.words_rows.specs.Rows.{Tabled};
-ghost use Rattle.words_bus.specs.Packed.{stateIn, answerAt, Packed, Leaves};
+ghost use Rattle.words_state.specs.Packed.{stateIn, answerAt, Packed, Leaves};
 ghost use Rattle.words_device.specs.Named.{Named};
 ghost use Rattle.words_burst.specs.Burst.{wordAt, sent, eventAt, sentOf, one, ran, eight, Left, Bursts};
 use device_rules::Answer;
-use words_bus::WRONG_ARGUMENT;
-use words_bus::WRONG_KIND;
+use words_state::WRONG_ARGUMENT;
+use words_state::WRONG_KIND;
 
 // Refusals as a caller has them.
 const BROKEN: u32 = 3;
@@ -97,7 +97,7 @@ fn put(answers: &mut [u8], i: usize, number: u32)
     ensures { λ r. ⌜ now (answers .exit) ≡ set (set (now (answers .entry)) (2 * i) (answerKind (answerAt number))) (2 * i + 1) (answerByte (answerAt number)) ⌝ }
 {
     answers[2 * i] = (number % 256) as u8;
-    answers[2 * i + 1] = words_bus::byte_read(number);
+    answers[2 * i + 1] = words_state::byte_read(number);
 }
 
 // The events in order, until one is refused.
@@ -118,7 +118,7 @@ fn run(
     let mut i = 0;
     while i < asked {
         let number = take(words, rows, next, pins, events, i);
-        let answer = words_bus::answer(number);
+        let answer = words_state::answer(number);
         let Answer::Refused(refusal) = answer else {
             put(answers, i, number);
             i += 1;

@@ -6,7 +6,7 @@ use Rattle.map.specs.Map.{partOf}
 use Rattle.device_rules.specs.Refusals.{stepped}
 use Rattle.device_rules.specs.declared.Answer.{Answer}
 use Rattle.words_rows.specs.Rows.{Tabled}
-use Rattle.words_bus.specs.Packed.{stateIn, Packed, Leaves}
+use Rattle.words_state.specs.Packed.{stateIn, Packed, Leaves}
 use Rattle.words_device.specs.Named.{Named, Obeys}
 
 module _ (c : ℕ) (w : List ℕ) (k : Packed c w) where

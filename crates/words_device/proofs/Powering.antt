@@ -9,8 +9,8 @@ use Rattle.device_rules.specs.Device.{out}
 use Rattle.device_rules.specs.declared.Answer.the-variants.{Nothing}
 use Rattle.device_rules.specs.PowerOn.{powerOn}
 use Rattle.words.specs.Words.{withSets}
-use Rattle.words_bus.specs.Packed.{resetWords, Leaves}
-use Rattle.words_bus.proofs.Resetting.{fresh}
+use Rattle.words_state.specs.Packed.{resetWords, Leaves}
+use Rattle.words_state.proofs.Resetting.{fresh}
 
 module _ (part choice levels : ℕ) (hp : part < 2) (hc : choice < 4) (hl : levels < 2 ^ partOf part .width) where
   abbrev y : Sets

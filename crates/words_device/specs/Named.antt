@@ -5,7 +5,7 @@ use lib.ListN.{getD}
 use Rattle.map.specs.Map.{partOf}
 use Rattle.device_rules.specs.declared.Answer.{Answer}
 use Rattle.device_rules.specs.Refusals.{stepped}
-use Rattle.words_bus.specs.Packed.{partWord, stateIn, Packed, Leaves}
+use Rattle.words_state.specs.Packed.{partWord, stateIn, Packed, Leaves}
 
 abbrev pub Named : List ℕ → Type 0
 Named w = Packed (getD w partWord 0) w

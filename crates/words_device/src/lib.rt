@@ -5,7 +5,7 @@ ghost use lib.ListN.{getD};
 ghost use Rattle.map.specs.Map.{partOf, Stepping};
 ghost use Rattle.device_rules.specs.PowerOn.{powerOn};
 ghost use Rattle.words_rows.specs.Rows.{rowAt, Rowed, Tabled};
-ghost use Rattle.words_bus.specs.Packed.{stateIn, answerAt, Packed, Steps};
+ghost use Rattle.words_state.specs.Packed.{stateIn, answerAt, Packed, Steps};
 ghost use Rattle.words_device.specs.Named.{Named, Obeys};
 use device_rules::Answer;
 use pins::Sets;
@@ -17,7 +17,7 @@ pub fn power_on(words: &mut [u64; 28], part: u64, choice: u8, levels: u64)
     requires { ⌜ (part < 2) × (choice < 4) × (levels < 2 ^ partOf part .width) ⌝ }
     ensures { λ r. ⌜ Packed part (now (words .exit)) × (stateIn (partOf part) (now (words .exit)) ≡ powerOn (partOf part) choice levels) ⌝ }
 {
-    words_bus::put_defaults(words, map::pins_of(part), choice as u64, part);
+    words_state::put_defaults(words, map::pins_of(part), choice as u64, part);
     let quiet = Sets {
         level: levels,
         reference: levels,
@@ -35,10 +35,10 @@ pub fn event(words: &mut [u64; 28], kind: u32, arg: u64) -> Answer
     let part = words[PART];
     if words_bus::is_command(&*words, kind) {
         let wanted = words_rows::row_of(part, (arg % 128) as u8);
-        return words_bus::answer(words_bus::command(words, wanted, arg));
+        return words_state::answer(words_bus::command(words, wanted, arg));
     }
     let row = words_rows::row_of(part, (words[POINTER] % 128) as u8);
-    words_bus::answer(words_bus::event(words, map::pins_of(part), row, kind, arg))
+    words_state::answer(words_bus::event(words, map::pins_of(part), row, kind, arg))
 }
 
 // A number that fits a row.
@@ -83,7 +83,7 @@ pub fn step(words: &mut [u64; 28], part: u64, kind: u32, arg: u64) -> u32
 {
     let row = words_fits::judged(&*words, part);
     if row == 0 {
-        return words_bus::WRONG_IMAGE;
+        return words_state::WRONG_IMAGE;
     }
     if words_bus::is_command(&*words, kind) {
         let wanted = words_rows::row_of(part, (arg % 128) as u8);

@@ -18,8 +18,8 @@ use Rattle.words.specs.Words.{coreIn, interruptIn, wideOf, Fit}
 use Rattle.words.proofs.Sound.{sound}
 use Rattle.words.proofs.Holding.{small-of-clear, pin-word}
 use Rattle.words.proofs.Existing.{ones-bit}
-use Rattle.words_bus.specs.Packed.{unionTo, Bounded, Limits}
-use Rattle.words_bus.proofs.Left.{unused-case}
+use Rattle.words_state.specs.Packed.{unionTo, Bounded, Limits}
+use Rattle.words_state.proofs.Left.{unused-case}
 
 -- ---- numbers that are 0
 zero-of-dark : (x : ℕ) → ((i : ℕ) → bit x i ≡ false) → x ≡ 0

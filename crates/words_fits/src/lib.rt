@@ -7,7 +7,7 @@ ghost use lib.ListN.{getD};
 ghost use Rattle.map.specs.Map.{partOf};
 ghost use Rattle.registers.specs.Interrupt.{workedOut};
 ghost use Rattle.words.specs.Words.{coreIn, interruptIn, Fit};
-ghost use Rattle.words_bus.specs.Packed.{unionTo, Packed, Judged, Bounded, Limits};
+ghost use Rattle.words_state.specs.Packed.{unionTo, Packed, Judged, Bounded, Limits};
 use map::DEBOUNCE_COUNT24;
 use map::DEBOUNCE_COUNT34;
 use map::DEBOUNCED24;

@@ -25,9 +25,9 @@ use Rattle.registers.proofs.Kept.{same-interrupt, line-small}
 use Rattle.words.specs.Words.{fileOf, setsIn, withSets, coreIn, interruptIn, Fit, Holds}
 use Rattle.words.proofs.Sound.{sound}
 use Rattle.words.proofs.Holding.{within, sets-there, holds-sets}
-use Rattle.words_bus.specs.Packed.{stateIn, Packed, Steps}
-use Rattle.words_bus.proofs.Left.{unused-case, core-past, fit-past}
-use Rattle.words_bus.proofs.Judging.{same-packed, image-fits, bounded-of}
+use Rattle.words_state.specs.Packed.{stateIn, Packed, Steps}
+use Rattle.words_state.proofs.Left.{unused-case, core-past, fit-past}
+use Rattle.words_state.proofs.Judging.{same-packed, image-fits, bounded-of}
 use Rattle.words_images.specs.Images.{Packs, restIn}
 
 -- what an image that fits is known to be

@@ -10,7 +10,7 @@ use Rattle.device_rules.specs.Device.{State}
 use Rattle.device_rules.specs.declared.Rest.{Rest}
 use Rattle.device_rules.specs.Refusals.{imageFits}
 use Rattle.words.specs.Words.{setsIn, statusWord, lineWord}
-use Rattle.words_bus.specs.Packed.{stateIn, pointerWord, busWord, choiceWord, Packed}
+use Rattle.words_state.specs.Packed.{stateIn, pointerWord, busWord, choiceWord, Packed}
 
 -- an image of part c, judged as an image; the words are its packing then, or as they were
 pub record Packs (c : ℕ) (image : State) (fits : Bool) (w w' : List ℕ) : Type 0 where

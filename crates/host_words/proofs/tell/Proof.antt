@@ -8,8 +8,8 @@ use native.Mathlib.Omega.{arith}
 use borrow.Author.Tests.{ne-eqb}
 use lib.Dec.{eqb}
 use Rattle.device_rules.specs.Answers.{answerByte}
-use Rattle.words_bus.specs.Packed.{answerAt}
-use Rattle.words_bus.proofs.Told.{refused-told, answered-told}
+use Rattle.words_state.specs.Packed.{answerAt}
+use Rattle.words_state.proofs.Told.{refused-told, answered-told}
 use Rattle.host_words.proofs.tell.Statement.{statement}
 use Rattle.host_words.proofs.tell.Tie as tie
 

@@ -4,7 +4,7 @@ use mathlib.Core.Path.{refl}
 use Prim.Native.Nat.{ℕ}
 use lib.ListN.{getD}
 use Rattle.map.specs.Map.{partOf}
-use Rattle.words_bus.specs.Packed.{partWord}
+use Rattle.words_state.specs.Packed.{partWord}
 use Rattle.trace_session.proofs.Laws.{keeps-as, fresh-anew}
 use Rattle.trace_session.proofs.refresh.Statement.{statement}
 use Rattle.trace_session.proofs.refresh.Tie as tie

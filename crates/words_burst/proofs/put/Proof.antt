@@ -4,7 +4,7 @@ use mathlib.Core.Path.{sym, ap₂}
 use Prim.Native.Nat.{ℕ, _+_, _*_}
 use native.Mathlib.Omega.{arith}
 use lib.ListN.{set, length-set}
-use Rattle.words_bus.proofs.Told.{kind-told}
+use Rattle.words_state.proofs.Told.{kind-told}
 use Rattle.words_burst.proofs.put.Statement.{statement}
 use Rattle.words_burst.proofs.put.Tie as tie
 

@@ -1,6 +1,6 @@
 -- `take`: the event's three words, and then `one`. Assumes nothing.
 use borrow.Author.Needs.{needs}
-use Rattle.words_bus.proofs.Left.{by-rule}
+use Rattle.words_state.proofs.Left.{by-rule}
 use Rattle.words_burst.proofs.take.Statement.{statement}
 use Rattle.words_burst.proofs.take.Tie as tie
 

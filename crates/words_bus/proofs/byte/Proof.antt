@@ -6,8 +6,8 @@ use Rattle.map.specs.Map.{partOf}
 use Rattle.device_rules.specs.Device.{byteIn}
 use Rattle.device_rules.specs.declared.Answer.the-variants.{Nak}
 use Rattle.device_rules.proofs.Stepping.{at-bus, no-byte}
-use Rattle.words_bus.specs.Packed.{stateIn, answerAt}
-use Rattle.words_bus.proofs.Left.{left-same, went, in-bus}
+use Rattle.words_state.specs.Packed.{stateIn, answerAt}
+use Rattle.words_state.proofs.Left.{left-same, went, in-bus}
 use Rattle.words_bus.proofs.byte.Statement.{statement}
 use Rattle.words_bus.proofs.byte.Tie as tie
 

@@ -7,8 +7,8 @@ use borrow.Author.Tests.{eq-eqb, ne-eqb}
 use Rattle.map.specs.Map.{reserved, partOf}
 use Rattle.device_rules.specs.Device.{byteIn}
 use Rattle.device_rules.specs.declared.Answer.the-variants.{Ack, Nak}
-use Rattle.words_bus.specs.Packed.{answerAt}
-use Rattle.words_bus.proofs.Left.{went, chose, over, command-row}
+use Rattle.words_state.specs.Packed.{answerAt}
+use Rattle.words_state.proofs.Left.{went, chose, over, command-row}
 use Rattle.words_bus.proofs.byte_chosen.Statement.{statement}
 use Rattle.words_bus.proofs.byte_chosen.Tie as tie
 

@@ -11,7 +11,7 @@ use Rattle.words.specs.Words.{coreIn, interruptIn}
 use Rattle.words.proofs.Sound.{mapped}
 use Rattle.words.proofs.Images.{file-length}
 use Rattle.words_rows.proofs.Taken.{known-small, next-of, next-known}
-use Rattle.words_bus.proofs.Left.{holds-pointer}
+use Rattle.words_state.proofs.Left.{holds-pointer}
 use Rattle.words_bus.proofs.byte_filling.Statement.{statement}
 use Rattle.words_bus.proofs.byte_filling.Tie as tie
 

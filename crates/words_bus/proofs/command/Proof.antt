@@ -4,8 +4,8 @@ use mathlib.Core.Path.{refl}
 use native.Mathlib.Omega.{arith}
 use borrow.Author.Tests.{lt-ltb, le-ltb}
 use Rattle.device_rules.specs.declared.Answer.the-variants.{Refused}
-use Rattle.words_bus.proofs.Left.{left-same, in-bus, by-rule}
-use Rattle.words_bus.proofs.Judging.{taken, wrong-argument}
+use Rattle.words_state.proofs.Left.{left-same, in-bus, by-rule}
+use Rattle.words_state.proofs.Judging.{taken, wrong-argument}
 use Rattle.words_bus.proofs.command.Statement.{statement}
 use Rattle.words_bus.proofs.command.Tie as tie
 

@@ -11,10 +11,10 @@ use Rattle.device_rules.specs.declared.Answer.the-variants.{Nothing, Refused}
 use Rattle.device_rules.proofs.Stepping.{same-state}
 use Rattle.registers.proofs.Kept.{kept-levelled}
 use Rattle.words.specs.Words.{coreIn, interruptIn}
-use Rattle.words_bus.specs.Packed.{answerAt}
-use Rattle.words_bus.proofs.Left.{left-same, went, holds-left, by-rule}
-use Rattle.words_bus.proofs.Standing.{pin-levels}
-use Rattle.words_bus.proofs.Judging.{taken, wrong-argument, wrong-kind, none-of-six}
+use Rattle.words_state.specs.Packed.{answerAt}
+use Rattle.words_state.proofs.Left.{left-same, went, holds-left, by-rule}
+use Rattle.words_state.proofs.Standing.{pin-levels}
+use Rattle.words_state.proofs.Judging.{taken, wrong-argument, wrong-kind, none-of-six}
 use Rattle.words_bus.proofs.event.Statement.{statement}
 use Rattle.words_bus.proofs.event.Tie as tie
 

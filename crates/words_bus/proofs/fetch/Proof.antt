@@ -10,9 +10,9 @@ use Rattle.device_rules.proofs.Stepping.{same-state, same-outcome, sending, str
 use Rattle.registers.proofs.Kept.{kept-fetched}
 use Rattle.words.specs.Words.{coreIn, interruptIn}
 use Rattle.words_rows.proofs.Taken.{known-small, next-of, next-known, known-inside}
-use Rattle.words_bus.specs.Packed.{stateIn}
-use Rattle.words_bus.proofs.Left.{left-same, holds-bus, holds-pointer}
-use Rattle.words_bus.proofs.Standing.{known-row}
+use Rattle.words_state.specs.Packed.{stateIn}
+use Rattle.words_state.proofs.Left.{left-same, holds-bus, holds-pointer}
+use Rattle.words_state.proofs.Standing.{known-row}
 use Rattle.words_bus.proofs.fetch.Statement.{statement}
 use Rattle.words_bus.proofs.fetch.Tie as tie
 

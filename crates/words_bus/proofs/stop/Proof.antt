@@ -6,8 +6,8 @@ use borrow.Author.Tests.{eq-eqb, ne-eqb}
 use lib.ListN.{getD}
 use Rattle.device_rules.specs.Device.{step}
 use Rattle.device_rules.specs.declared.Answer.the-variants.{Nothing}
-use Rattle.words_bus.specs.Packed.{answerAt}
-use Rattle.words_bus.proofs.Left.{went, by-rule}
+use Rattle.words_state.specs.Packed.{answerAt}
+use Rattle.words_state.proofs.Left.{went, by-rule}
 use Rattle.words_bus.proofs.stop.Statement.{statement}
 use Rattle.words_bus.proofs.stop.Tie as tie
 

@@ -4,10 +4,10 @@ use mathlib.Core.Path.{sym, ap}
 use Prim.Native.Nat.{ℕ}
 use Rattle.map.specs.Map.{partOf}
 use Rattle.device_rules.specs.Refusals.{stepped}
-use Rattle.words_bus.specs.Packed.{stateIn}
-use Rattle.words_bus.proofs.Left.{by-rule}
-use Rattle.words_bus.proofs.Standing.{stands, its-pins}
-use Rattle.words_bus.proofs.Judging.{no-image, image}
+use Rattle.words_state.specs.Packed.{stateIn}
+use Rattle.words_state.proofs.Left.{by-rule}
+use Rattle.words_state.proofs.Standing.{stands, its-pins}
+use Rattle.words_state.proofs.Judging.{no-image, image}
 use Rattle.words_device.proofs.step.Statement.{statement}
 use Rattle.words_device.proofs.step.Tie as tie
 

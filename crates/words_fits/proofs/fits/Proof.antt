@@ -5,7 +5,7 @@ use mathlib.Core.Bool.{Bool, true, false}
 use mathlib.Core.List.{List}
 use Prim.Native.Nat.{ℕ}
 use Rattle.bits.proofs.Decide.{clash}
-use Rattle.words_bus.specs.Packed.{Packed, Judged}
+use Rattle.words_state.specs.Packed.{Packed, Judged}
 use Rattle.words_fits.proofs.Parts.{no-part}
 use Rattle.words_fits.proofs.fits.Statement.{statement}
 use Rattle.words_fits.proofs.fits.Tie as tie

@@ -1,8 +1,8 @@
--- `words_bus::set_levels`: the pins' levels, and what is kept of the interrupt after them (`rung`). Assumes nothing.
+-- `words_kept::set_levels`: the pins' levels, and what is kept of the interrupt after them (`rung`). Assumes nothing.
 use borrow.Author.Needs.{needs}
-use Rattle.words_bus.proofs.Left.{rung}
-use Rattle.words_bus.proofs.set_levels.Statement.{statement}
-use Rattle.words_bus.proofs.set_levels.Tie as tie
+use Rattle.words_state.proofs.Left.{rung}
+use Rattle.words_kept.proofs.set_levels.Statement.{statement}
+use Rattle.words_kept.proofs.set_levels.Tie as tie
 
 returns : tie.Need-returns
 returns c =

@@ -1,4 +1,4 @@
--- `words_bus::settle`: the register's own fetch, and what is kept of the interrupt after it (`rung`, `unrung`). Assumes nothing.
+-- `words_kept::settle`: the register's own fetch, and what is kept of the interrupt after it (`rung`, `unrung`). Assumes nothing.
 use borrow.Author.Needs.{needs}
 use native.Mathlib.Omega.{arith}
 use borrow.Author.Tests.{ne-eqb}
@@ -7,9 +7,9 @@ use Rattle.map.specs.Map.{partOf}
 use Rattle.registers.proofs.Kept.{unrung-fetched}
 use Rattle.words.specs.Words.{coreIn, interruptIn}
 use Rattle.words_rows.proofs.Taken.{known-small, low-rule}
-use Rattle.words_bus.proofs.Left.{rung, unrung}
-use Rattle.words_bus.proofs.settle.Statement.{statement}
-use Rattle.words_bus.proofs.settle.Tie as tie
+use Rattle.words_state.proofs.Left.{rung, unrung}
+use Rattle.words_kept.proofs.settle.Statement.{statement}
+use Rattle.words_kept.proofs.settle.Tie as tie
 
 returns : tie.Need-returns
 returns c =

@@ -1,9 +1,9 @@
--- `words_bus::answer`: by the number's kind. Assumes nothing.
+-- `words_state::answer`: by the number's kind. Assumes nothing.
 use borrow.Author.Needs.{needs}
 use mathlib.Core.Path.{refl}
-use Rattle.words_bus.proofs.Left.{answer-by, answer-rest}
-use Rattle.words_bus.proofs.answer.Statement.{statement}
-use Rattle.words_bus.proofs.answer.Tie as tie
+use Rattle.words_state.proofs.Left.{answer-by, answer-rest}
+use Rattle.words_state.proofs.answer.Statement.{statement}
+use Rattle.words_state.proofs.answer.Tie as tie
 
 returns : tie.Need-returns
 returns c = answer-by (c .before .args .number) 0 (c .match .keys1)

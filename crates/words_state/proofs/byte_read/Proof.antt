@@ -1,9 +1,9 @@
--- `words_bus::byte_read`: by whether the number's kind is that of a byte read. Assumes nothing.
+-- `words_state::byte_read`: by whether the number's kind is that of a byte read. Assumes nothing.
 use borrow.Author.Needs.{needs}
 use mathlib.Core.Path.{sym}
-use Rattle.words_bus.proofs.Told.{byte-is, byte-none}
-use Rattle.words_bus.proofs.byte_read.Statement.{statement}
-use Rattle.words_bus.proofs.byte_read.Tie as tie
+use Rattle.words_state.proofs.Told.{byte-is, byte-none}
+use Rattle.words_state.proofs.byte_read.Statement.{statement}
+use Rattle.words_state.proofs.byte_read.Tie as tie
 
 returns : tie.Need-returns
 returns c = sym (byte-is (c .before .args .number) (search needs))

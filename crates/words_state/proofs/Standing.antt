@@ -8,7 +8,7 @@ use lib.Pow.{pow-pos}
 use Rattle.map.specs.Map.{partOf}
 use Rattle.words.specs.Words.{PinLevels}
 use Rattle.words_rows.specs.Rows.{rowAt, Known}
-use Rattle.words_bus.specs.Packed.{Packed, Standing}
+use Rattle.words_state.specs.Packed.{Packed, Standing}
 
 module _ (c : ℕ) (w : List ℕ) (k : Packed c w) where
   pub stands : (row n : ℕ) → row ≡ rowAt (partOf c) n → Standing row n w

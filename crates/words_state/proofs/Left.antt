@@ -29,7 +29,7 @@ use Rattle.words.proofs.Sound.{sound}
 use Rattle.words.proofs.Writing.{file-beside}
 use Rattle.words_rows.specs.Rows.{rowAt}
 use Rattle.words_rows.proofs.Taken.{row-zero}
-use Rattle.words_bus.specs.Packed.{stateIn, answerAt, unused, Packed, Becomes, Leaves}
+use Rattle.words_state.specs.Packed.{stateIn, answerAt, unused, Packed, Becomes, Leaves}
 
 -- the unused words
 pub unused-case : (P : ℕ → Type 0) → P 24 → P 25 → P 26 → (s : ℕ) → unused s ≡ true → P s

@@ -1,8 +1,8 @@
--- `words_bus::read`: kind 3, and the byte above it. Assumes nothing.
+-- `words_state::read`: kind 3, and the byte above it. Assumes nothing.
 use borrow.Author.Needs.{needs}
-use Rattle.words_bus.proofs.Left.{byte-answer}
-use Rattle.words_bus.proofs.read.Statement.{statement}
-use Rattle.words_bus.proofs.read.Tie as tie
+use Rattle.words_state.proofs.Left.{byte-answer}
+use Rattle.words_state.proofs.read.Statement.{statement}
+use Rattle.words_state.proofs.read.Tie as tie
 
 returns : tie.Need-returns
 returns c = byte-answer (c .args .byte) (c .fits .byte .fits)

@@ -1,4 +1,4 @@
--- `words_bus::write`: the register's own write, and what is kept of the interrupt after it (`rung`, `unrung`). Assumes nothing.
+-- `words_kept::write`: the register's own write, and what is kept of the interrupt after it (`rung`, `unrung`). Assumes nothing.
 use borrow.Author.Needs.{needs}
 use mathlib.Core.Path.{sym, _∙_}
 use lib.ListN.{getD}
@@ -8,9 +8,9 @@ use Rattle.words.specs.Words.{coreIn, interruptIn}
 use Rattle.words.proofs.Sound.{mapped}
 use Rattle.words.proofs.Images.{file-length}
 use Rattle.words_rows.proofs.Taken.{known-small}
-use Rattle.words_bus.proofs.Left.{rung, unrung}
-use Rattle.words_bus.proofs.write.Statement.{statement}
-use Rattle.words_bus.proofs.write.Tie as tie
+use Rattle.words_state.proofs.Left.{rung, unrung}
+use Rattle.words_kept.proofs.write.Statement.{statement}
+use Rattle.words_kept.proofs.write.Tie as tie
 
 returns : tie.Need-returns
 returns c =

@@ -10,7 +10,7 @@ use Rattle.bits.proofs.Decide.{clash}
 use Rattle.device_rules.specs.Answers.{answerKind, answerByte, refusalNumber}
 use Rattle.device_rules.specs.declared.Answer.{Answer}
 use Rattle.device_rules.specs.declared.Answer.the-variants.{Nothing, Ack, Nak, Byte, Refused}
-use Rattle.words_bus.specs.Packed.{answerAt}
+use Rattle.words_state.specs.Packed.{answerAt}
 
 -- by its kind k and its value v
 abbrev by : (k v : ℕ) → Answer

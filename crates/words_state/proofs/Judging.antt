@@ -26,7 +26,7 @@ use Rattle.words.proofs.Holding.{within}
 use Rattle.words.proofs.Fits.{same-word-of, file-of-fits}
 use Rattle.words_rows.specs.Rows.{rowAt}
 use Rattle.words_rows.proofs.Taken.{known-small, row-zero}
-use Rattle.words_bus.specs.Packed.{stateIn, unused, Packed, Leaves, Steps, Bounded}
+use Rattle.words_state.specs.Packed.{stateIn, unused, Packed, Leaves, Steps, Bounded}
 
 -- ---- an image of packed words fits
 module _ (c : ℕ) (w : List ℕ) (k : Packed c w) where

@@ -24,8 +24,8 @@ use Rattle.words.specs.Words.{slotAt, digitAt, heldBit, entryOf, fileOf, wideOf
 use Rattle.words.proofs.Sound.{sound, mapped}
 use Rattle.words.proofs.Fits.{fit-of-small}
 use Rattle.words.proofs.Holding.{holds-sets}
-use Rattle.words_bus.specs.Packed.{stateIn, resetWords, Packed, Leaves}
-use Rattle.words_bus.proofs.Left.{unused-case, by-rule}
+use Rattle.words_state.specs.Packed.{stateIn, resetWords, Packed, Leaves}
+use Rattle.words_state.proofs.Left.{unused-case, by-rule}
 
 pub record Defaults (c choice part : ℕ) : Type 0 where
   pub file : fileOf (partOf c) (resetWords (2 ^ partOf c .width - 1) choice part) ≡ defaults (partOf c)
