@@ -40,6 +40,7 @@ struct ghixramel_image {
     uint64_t choice;        /* the address choice, 0 to 3 */
     uint64_t status;        /* the pins whose status bit is 1 */
     uint64_t line;          /* INT's level: 1 quiet, 0 asserted */
+    uint64_t mode;          /* how the pointer steps: 0 in its group, 1 over the whole map */
 };
 
 /* C99 has no static assertion: an array of -1 bytes stops its compiler, so that no processor's layout goes unseen. */
@@ -60,7 +61,8 @@ GHIXRAMEL_ASSERT(bus, offsetof(struct ghixramel_image, bus) == 168);
 GHIXRAMEL_ASSERT(choice, offsetof(struct ghixramel_image, choice) == 176);
 GHIXRAMEL_ASSERT(status, offsetof(struct ghixramel_image, status) == 184);
 GHIXRAMEL_ASSERT(line, offsetof(struct ghixramel_image, line) == 192);
-GHIXRAMEL_ASSERT(image_size, sizeof(struct ghixramel_image) == 200);
+GHIXRAMEL_ASSERT(mode, offsetof(struct ghixramel_image, mode) == 200);
+GHIXRAMEL_ASSERT(image_size, sizeof(struct ghixramel_image) == 208);
 #undef GHIXRAMEL_ASSERT
 
 /* Refusals. */
@@ -139,12 +141,12 @@ uint32_t ghixramel_int(const struct ghixramel *device, uint8_t asserted[1]);
 uint32_t ghixramel_show(const struct ghixramel *device, uint32_t number, uint8_t shown[1]);
 
 /* The words of an image, and back, for a host that lays out its images itself; those on the structs come below.
- * rest is the pointer, the bus state, the address choice, the status and the line. Refusal 3. */
-uint32_t ghixramel_pack(uint64_t words[28], const uint64_t pins[4], const uint8_t registers[128], const uint64_t rest[5]);
-uint32_t ghixramel_unpack(const uint64_t words[28], uint64_t pins[4], uint8_t registers[128], uint64_t rest[5]);
+ * rest is the pointer, the bus state, the address choice, the status, the line and the mode. Refusal 3. */
+uint32_t ghixramel_pack(uint64_t words[28], const uint64_t pins[4], const uint8_t registers[128], const uint64_t rest[6]);
+uint32_t ghixramel_unpack(const uint64_t words[28], uint64_t pins[4], uint8_t registers[128], uint64_t rest[6]);
 
 /* The image's numbers out of rest, if the call that filled it was not refused. */
-static inline uint32_t ghixramel_image_rest(uint32_t refusal, const uint64_t rest[5], struct ghixramel_image *image)
+static inline uint32_t ghixramel_image_rest(uint32_t refusal, const uint64_t rest[6], struct ghixramel_image *image)
 {
     if (refusal == GHIXRAMEL_DONE) {
         image->pointer = rest[0];
@@ -152,6 +154,7 @@ static inline uint32_t ghixramel_image_rest(uint32_t refusal, const uint64_t res
         image->choice = rest[2];
         image->status = rest[3];
         image->line = rest[4];
+        image->mode = rest[5];
     }
     return refusal;
 }
@@ -159,14 +162,14 @@ static inline uint32_t ghixramel_image_rest(uint32_t refusal, const uint64_t res
 /* The image of a state. Refusal 3. */
 static inline uint32_t ghixramel_to_image(const struct ghixramel *device, struct ghixramel_image *image)
 {
-    uint64_t rest[5] = {0};
+    uint64_t rest[6] = {0};
     return ghixramel_image_rest(ghixramel_unpack(device->words, image->pins, image->registers, rest), rest, image);
 }
 
 /* A device in the state that the image says; what its memory held does not matter. Refusal 3. */
 static inline uint32_t ghixramel_from_image(struct ghixramel *device, const struct ghixramel_image *image)
 {
-    const uint64_t rest[5] = {image->pointer, image->bus, image->choice, image->status, image->line};
+    const uint64_t rest[6] = {image->pointer, image->bus, image->choice, image->status, image->line, image->mode};
     return ghixramel_pack(device->words, image->pins, image->registers, rest);
 }
 
@@ -192,21 +195,21 @@ uint32_t ghixramel34_burst(struct ghixramel *device, const uint8_t *events, uint
 uint32_t ghixramel34_drives(const struct ghixramel *device, uint64_t drives[2]);
 uint32_t ghixramel34_int(const struct ghixramel *device, uint8_t asserted[1]);
 uint32_t ghixramel34_show(const struct ghixramel *device, uint32_t number, uint8_t shown[1]);
-uint32_t ghixramel34_pack(uint64_t words[28], const uint64_t pins[4], const uint8_t registers[128], const uint64_t rest[5]);
-uint32_t ghixramel34_unpack(const uint64_t words[28], uint64_t pins[4], uint8_t registers[128], uint64_t rest[5]);
+uint32_t ghixramel34_pack(uint64_t words[28], const uint64_t pins[4], const uint8_t registers[128], const uint64_t rest[6]);
+uint32_t ghixramel34_unpack(const uint64_t words[28], uint64_t pins[4], uint8_t registers[128], uint64_t rest[6]);
 
 uint32_t ghixramel34_plan(const uint8_t *start, uint64_t start_bytes, const uint8_t *goal, uint64_t goal_bytes,
                           uint8_t *buffer, uint64_t buffer_bytes, uint64_t writes[1]);
 
 static inline uint32_t ghixramel34_to_image(const struct ghixramel *device, struct ghixramel_image *image)
 {
-    uint64_t rest[5] = {0};
+    uint64_t rest[6] = {0};
     return ghixramel_image_rest(ghixramel34_unpack(device->words, image->pins, image->registers, rest), rest, image);
 }
 
 static inline uint32_t ghixramel34_from_image(struct ghixramel *device, const struct ghixramel_image *image)
 {
-    const uint64_t rest[5] = {image->pointer, image->bus, image->choice, image->status, image->line};
+    const uint64_t rest[6] = {image->pointer, image->bus, image->choice, image->status, image->line, image->mode};
     return ghixramel34_pack(device->words, image->pins, image->registers, rest);
 }
 

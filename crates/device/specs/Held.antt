@@ -16,7 +16,7 @@ use Rattle.device.specs.declared.Stepped.{Stepped}
 
 -- the state that a device's fields hold: all of it but the part
 abbrev pub stateIn : Device → State
-stateIn d = state (core (d .file) (d .sets)) (interrupt (d .status) (d .line)) (d .pointer) (d .bus) (d .choice)
+stateIn d = state (core (d .file) (d .sets)) (interrupt (d .status) (d .line)) (d .pointer) (d .mode) (d .bus) (d .choice)
 
 -- whether the device is one of the two parts, and its state an image of that part that may stand; else it is a broken image: 3
 abbrev pub fitsIn : Device → Bool

@@ -20,7 +20,7 @@ pub const PART24: u8 = 0;
 
 pub const PART34: u8 = 1;
 
-// The device: its part's number, and its state: one byte for each command number beside the pin sets, the pointer, the bus state, the address choice, the status set and the line.
+// The device: its part's number, and its state: one byte for each command number beside the pin sets, the pointer, the bus state, the address choice, the status set, the line and the pointer's mode.
 pub struct Device {
     pub part: u8,
     pub file: [u8; 128],
@@ -30,6 +30,7 @@ pub struct Device {
     pub choice: u8,
     pub status: u64,
     pub line: u8,
+    pub mode: u8,
 }
 
 // An answer, and the device after.
@@ -60,6 +61,13 @@ pub struct Line {
 pub struct Shown {
     pub refusal: u8,
     pub byte: u8,
+}
+
+// A byte of an image as the words have it.
+fn wide(byte: u8) -> u64
+    ensures { λ r. ⌜ r ≡ byte ⌝ }
+{
+    byte as u64
 }
 
 // What refuses to make a device of the part: its number, 0 for none.
@@ -144,6 +152,7 @@ impl Device {
             choice,
             status: 0,
             line: QUIET,
+            mode: 0,
         };
         Made { refusal, device }
     }
@@ -163,15 +172,16 @@ impl Device {
     }
 
     // The words of the image, if it may stand: what refusal 3 asks.
-    fn pack(self, words: &mut [u64; 28]) -> bool
+    pub fn pack(self, words: &mut [u64; 28]) -> bool
         ensures { λ fits. ⌜ Packs (self .part) (stateIn self) fits (now (words .entry)) (now (words .exit)) ⌝ }
     {
-        let part = self.part as u64;
+        let part = wide(self.part);
         let file = self.file;
-        let pointer = self.pointer as u64;
-        let bus = self.bus as u64;
-        let choice = self.choice as u64;
-        let line = self.line as u64;
+        let pointer = wide(self.pointer);
+        let bus = wide(self.bus);
+        let choice = wide(self.choice);
+        let line = wide(self.line);
+        let mode = wide(self.mode);
         words_images::pack(
             words,
             part,
@@ -182,6 +192,7 @@ impl Device {
             choice,
             self.status,
             line,
+            mode,
         )
     }
 
@@ -209,6 +220,7 @@ impl Device {
             choice: after.choice,
             status: after.status,
             line: after.line,
+            mode: after.mode,
         };
         Stepped { answer, device }
     }

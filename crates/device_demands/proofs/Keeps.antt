@@ -14,7 +14,7 @@ use Rattle.bits.proofs.Laws.{bit-high}
 use Rattle.pins.specs.AllPins.{Within}
 use Rattle.pins.specs.declared.Sets.{Sets}
 use Rattle.pins.proofs.AllPins.{map-within}
-use Rattle.map.specs.Map.{Part, Kind, firstOf, kindAt, reserved, next, stored, defaults, roomAt, whole, keptIn, fitting, fittingAt, fittingFrom, fileFits}
+use Rattle.map.specs.Map.{Part, Kind, firstOf, kindAt, reserved, next, onward, nextIn, stored, defaults, roomAt, whole, keptIn, fitting, fittingAt, fittingFrom, fileFits}
 use Rattle.map.specs.Map.Kind.{Reserved, Input, Status, InputStatus, Configuration, Latch, Mask, PortKind, Edge, Clear, Output, Polarity, PinKind, Stored}
 use Rattle.registers.specs.Registers.{Core, core, groupBit, keptAs, writtenAs, fetched, levelled, intAsserted}
 use Rattle.registers.specs.Interrupt.{workedOut}
@@ -131,6 +131,7 @@ unfolding imageFits
 image-of p s d =
     simp (
       d .pointer-known,
+      lt-ltb (s .mode) 2 (d .mode-small),
       lt-ltb (s .bus) 8 (d .bus-small),
       lt-ltb (s .choice) 4 (d .choice-small),
       sets-fit p (s .regs .sets) (d .within),
@@ -141,9 +142,13 @@ image-of p s d =
 pub well-formed : (p : Part) (s : State) → imageFits p s ≡ true → length (s .regs .file) ≡ 128 → WellFormed p s
 well-formed p s e l = record { sound = sound-of p s e; full = l }
 
--- the pointer steps to a number that is not reserved
-next-known : (p : Part) → Lawful p → (n : ℕ) → n < 128 → reserved p n ≡ false → reserved p (next p n) ≡ false
-next-known p ok n h e = not-true (reserved p (next p n)) (ap (λ (b : Bool). b || not (reserved p (next p n))) (sym e) ∙ ok .steps n h)
+-- the pointer steps to a number that is not reserved, in either mode
+next-known : (p : Part) → Lawful p → (mode n : ℕ) → n < 128 → reserved p n ≡ false → reserved p (nextIn p mode n) ≡ false
+unfolding nextIn
+next-known p ok mode n h e =
+    either-arm (λ (m : ℕ). reserved p m ≡ false) (eqb mode 1)
+    (not-true (reserved p (onward p n)) (ap (λ (b : Bool). b || not (reserved p (onward p n))) (sym e) ∙ ok .walks n h))
+    (not-true (reserved p (next p n)) (ap (λ (b : Bool). b || not (reserved p (next p n))) (sym e) ∙ ok .steps n h))
 
 -- ---- each way in which a step changes the state
 module _ (p : Part) (ok : Lawful p) (s : State) (g : WellFormed p s) where
@@ -152,6 +157,7 @@ module _ (p : Part) (ok : Lawful p) (s : State) (g : WellFormed p s) where
     sound = record {
       pointer-small = g .sound .pointer-small;
       pointer-known = g .sound .pointer-known;
+      mode-small = g .sound .mode-small;
       bus-small = small b;
       choice-small = g .sound .choice-small;
       within = g .sound .within;
@@ -202,8 +208,9 @@ module _ (p : Part) (ok : Lawful p) (s : State) (g : WellFormed p s) where
   unfolding byteIn writtenAs
   fill-keeps b = record {
     sound = record {
-      pointer-small = known-small p (next p (s .pointer)) (next-known p ok (s .pointer) (g .sound .pointer-small) (g .sound .pointer-known));
-      pointer-known = next-known p ok (s .pointer) (g .sound .pointer-small) (g .sound .pointer-known);
+      pointer-small = known-small p (nextIn p (s .mode) (s .pointer)) (next-known p ok (s .mode) (s .pointer) (g .sound .pointer-small) (g .sound .pointer-known));
+      pointer-known = next-known p ok (s .mode) (s .pointer) (g .sound .pointer-small) (g .sound .pointer-known);
+      mode-small = g .sound .mode-small;
       bus-small = omega arith;
       choice-small = g .sound .choice-small;
       within = map-within (p .width) _ _;
@@ -217,8 +224,9 @@ module _ (p : Part) (ok : Lawful p) (s : State) (g : WellFormed p s) where
   unfolding fetchIn fetched
   fetch-keeps true = record {
     sound = record {
-      pointer-small = known-small p (next p (s .pointer)) (next-known p ok (s .pointer) (g .sound .pointer-small) (g .sound .pointer-known));
-      pointer-known = next-known p ok (s .pointer) (g .sound .pointer-small) (g .sound .pointer-known);
+      pointer-small = known-small p (nextIn p (s .mode) (s .pointer)) (next-known p ok (s .mode) (s .pointer) (g .sound .pointer-small) (g .sound .pointer-known));
+      pointer-known = next-known p ok (s .mode) (s .pointer) (g .sound .pointer-small) (g .sound .pointer-known);
+      mode-small = g .sound .mode-small;
       bus-small = omega arith;
       choice-small = g .sound .choice-small;
       within = map-within (p .width) _ _;
@@ -231,6 +239,7 @@ module _ (p : Part) (ok : Lawful p) (s : State) (g : WellFormed p s) where
     sound = record {
       pointer-small = g .sound .pointer-small;
       pointer-known = g .sound .pointer-known;
+      mode-small = g .sound .mode-small;
       bus-small = omega arith;
       choice-small = g .sound .choice-small;
       within = map-within (p .width) _ _;
@@ -246,6 +255,7 @@ module _ (p : Part) (ok : Lawful p) (s : State) (g : WellFormed p s) where
     sound = record {
       pointer-small = omega arith;
       pointer-known = ok .first-known;
+      mode-small = omega arith;
       bus-small = omega arith;
       choice-small = g .sound .choice-small;
       within = map-within (p .width) _ _;
@@ -261,6 +271,7 @@ module _ (p : Part) (ok : Lawful p) (s : State) (g : WellFormed p s) where
     sound = record {
       pointer-small = g .sound .pointer-small;
       pointer-known = g .sound .pointer-known;
+      mode-small = g .sound .mode-small;
       bus-small = g .sound .bus-small;
       choice-small = g .sound .choice-small;
       within = map-within (p .width) _ _;
@@ -271,13 +282,14 @@ module _ (p : Part) (ok : Lawful p) (s : State) (g : WellFormed p s) where
   }
 
   -- a command that is not reserved
-  pub point-keeps : (b : ℕ) → (r : Bool) → reserved p b ≡ r
-      → WellFormed p (cond r (out Nak (goes s Deaf)) (out Ack (state (s .regs) (s .interrupt) b (number Filling) (s .choice))) .after)
+  pub point-keeps : (b : ℕ) → (r : Bool) → reserved p (b % 128) ≡ r
+      → WellFormed p (cond r (out Nak (goes s Deaf)) (out Ack (state (s .regs) (s .interrupt) (b % 128) (b / 128 % 2) (number Filling) (s .choice))) .after)
   point-keeps b true e = to Deaf
   point-keeps b false e = record {
     sound = record {
-      pointer-small = known-small p b e;
+      pointer-small = known-small p (b % 128) e;
       pointer-known = e;
+      mode-small = mod-lt (b / 128) (omega arith);
       bus-small = omega arith;
       choice-small = g .sound .choice-small;
       within = g .sound .within;
@@ -294,7 +306,7 @@ module _ (p : Part) (ok : Lawful p) (s : State) (g : WellFormed p s) where
   unfolding byteIn
   byte-keeps Idle b = g
   byte-keeps Opened b = either-arm Kept (eqb b (addressByte s)) (to Chosen) (either-arm Kept (eqb b (addressByte s + 1)) (to Sending) (either-arm Kept (eqb b 0x00) (to Call) (to Deaf)))
-  byte-keeps Chosen b = point-keeps b (reserved p b) refl
+  byte-keeps Chosen b = point-keeps b (reserved p (b % 128)) refl
   byte-keeps Filling b = fill-keeps b
   byte-keeps Sending b = to Deaf
   byte-keeps Call b = either-arm Kept (eqb b 0x06) (to Armed) (to Deaf)
@@ -337,6 +349,7 @@ power-on-fits p ok choice levels hc hl = record {
   sound = record {
     pointer-small = omega arith;
     pointer-known = ok .first-known;
+    mode-small = omega arith;
     bus-small = omega arith;
     choice-small = hc;
     within = small;

@@ -5,7 +5,7 @@ use Prim.Native.Nat.{ℕ, zero, suc, _+_, _-_, _*_, _/_, _%_, _<_, _≤_, min}
 use borrow.Author.Tests.{ltb-true, leb-true}
 use lib.Dec.{eqb, ltb, leb}
 use Rattle.bits.proofs.Decide.{eachBool, and-left, and-right}
-use Rattle.map.specs.Map.{Part, Kind, part24, part34, partOf, firstOf, kindAt, code, reserved, next, defaults, roomAt, whole, fitting, fileFits}
+use Rattle.map.specs.Map.{Part, Kind, part24, part34, partOf, firstOf, kindAt, code, reserved, next, onward, nextIn, walked, registerCount, defaults, roomAt, whole, fitting, fileFits}
 use Rattle.map.specs.Map.Kind.{Input, Status, InputStatus, Configuration, PortKind}
 use Rattle.registers.proofs.Pinwise.{Mapped, mapped24, mapped34}
 
@@ -22,6 +22,10 @@ pub record Lawful (p : Part) : Type 0 where
   pub first-known : reserved p 0 ≡ false
   -- the pointer steps from a known number to a known one
   pub steps : (n : ℕ) → n < 128 → (reserved p n || not (reserved p (next p n))) ≡ true
+  -- in either mode
+  pub walks : (n : ℕ) → n < 128 → (reserved p n || not (reserved p (onward p n))) ≡ true
+  -- and over the whole map back to where it began, after as many steps as there are registers
+  pub rounds : (n : ℕ) → n < 128 → (reserved p n || eqb (walked p 1 n (registerCount p)) n) ≡ true
   -- a register that shows pins is one of a port's, and has a bit for each of its pins
   pub places : (n : ℕ) → n < 128 → (not (showsPins (kindAt p n)) || inPlace p (kindAt p n) n) ≡ true
   -- where the ports are whole all bits exist, but for those of the output port kind, which has one a port
@@ -32,12 +36,14 @@ pub record Lawful (p : Part) : Type 0 where
   pub listed : (i : ℕ) → i < p .ports → ltb (firstOf p Configuration + i) 128 ≡ true
 
 pub lawful24 : Lawful part24
-unfolding kindAt reserved next defaults fileFits fitting
+unfolding kindAt reserved next onward nextIn walked defaults fileFits fitting
 lawful24 = record {
   mapped = mapped24;
   defaults-fit = refl;
   first-known = refl;
   steps = eachBool 128 _ _ tt;
+  walks = eachBool 128 _ _ tt;
+  rounds = eachBool 128 _ _ tt;
   places = eachBool 128 _ _ tt;
   rooms = eachBool 128 _ _ tt;
   missing = eachBool 24 _ _ tt;
@@ -45,12 +51,14 @@ lawful24 = record {
 }
 
 pub lawful34 : Lawful part34
-unfolding kindAt reserved next defaults fileFits fitting
+unfolding kindAt reserved next onward nextIn walked defaults fileFits fitting
 lawful34 = record {
   mapped = mapped34;
   defaults-fit = refl;
   first-known = refl;
   steps = eachBool 128 _ _ tt;
+  walks = eachBool 128 _ _ tt;
+  rounds = eachBool 128 _ _ tt;
   places = eachBool 128 _ _ tt;
   rooms = eachBool 128 _ _ tt;
   missing = eachBool 40 _ _ tt;

@@ -1,7 +1,7 @@
 -- Every event on the device of a lawful part is, at every pin, what happens to that one pin. Assumes nothing.
 use mathlib.Core.Path.{_≡_, refl, ap}
 use mathlib.Core.Bool.{Bool, true, false, cond}
-use Prim.Native.Nat.{ℕ, _+_, _<_}
+use Prim.Native.Nat.{ℕ, _+_, _%_, _<_}
 use lib.Dec.{eqb}
 use lib.ListN.{length}
 use Rattle.bits.proofs.Decide.{either-arm}
@@ -39,7 +39,7 @@ module _ (p : Part) (ok : Lawful p) (s : State) (i : ℕ) (hi : i < p .width) wh
   byte-pin full hn Opened b =
       stays (either-arm Same (eqb b (addressByte s)) refl
       (either-arm Same (eqb b (addressByte s + 1)) refl (either-arm Same (eqb b 0x00) refl refl)))
-  byte-pin full hn Chosen b = stays (either-arm Same (reserved p b) refl refl)
+  byte-pin full hn Chosen b = stays (either-arm Same (reserved p (b % 128)) refl refl)
   byte-pin full hn Filling b = write-pin p (s .regs) i hi (ok .mapped) full (s .pointer) hn b
   byte-pin full hn Sending b = stays refl
   byte-pin full hn Call b = stays (either-arm Same (eqb b 0x06) refl refl)

@@ -2,7 +2,7 @@
 use mathlib.Core.Path.{_≡_, refl, ap, ap₂, _∙_}
 use mathlib.Core.Bool.{Bool, true, false, cond, not, _&&_}
 use mathlib.Core.List.{List, [], _∷_, _++_}
-use Prim.Native.Nat.{ℕ, zero, suc, _+_, _^_, _<_}
+use Prim.Native.Nat.{ℕ, zero, suc, _+_, _%_, _^_, _<_}
 use native.Mathlib.Omega.{arith}
 use borrow.Author.Tests.{lt-ltb}
 use lib.Dec.{eqb, ltb, leb}
@@ -33,7 +33,7 @@ byte-answers : (p : Part) (k : Bus) (s : State) (b : ℕ) → Answers (byteIn p 
 unfolding byteIn
 byte-answers p Idle s b = refl
 byte-answers p Opened s b = either-arm Answers (eqb b (addressByte s)) refl (either-arm Answers (eqb b (addressByte s + 1)) refl (either-arm Answers (eqb b 0x00) refl refl))
-byte-answers p Chosen s b = either-arm Answers (reserved p b) refl refl
+byte-answers p Chosen s b = either-arm Answers (reserved p (b % 128)) refl refl
 byte-answers p Filling s b = refl
 byte-answers p Sending s b = refl
 byte-answers p Call s b = either-arm Answers (eqb b 0x06) refl refl

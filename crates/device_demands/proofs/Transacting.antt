@@ -3,7 +3,8 @@
 use mathlib.Core.Path.{_≡_, refl, sym, ap, ap₂, subst, _∙_}
 use mathlib.Core.Bool.{Bool, true, false, cond}
 use mathlib.Core.List.{List, [], _∷_}
-use Prim.Native.Nat.{ℕ, zero, suc, _+_, _-_, _*_, _<_}
+use Prim.Native.Nat.{ℕ, zero, suc, _+_, _-_, _*_, _/_, _%_, _<_}
+use native.Mathlib.Nat.{mod-eq-of-lt, div-add-mod'}
 use native.Mathlib.Omega.{arith}
 use borrow.Author.Tests.{eq-eqb, ne-eqb, eqb-true, ltb-true, ltb-false}
 use lib.Dec.{eqb, ltb}
@@ -13,7 +14,7 @@ use Rattle.bits.proofs.Laws.{bit-tabulate, bit-high, tabulate-lt, tabulate-ext}
 use Rattle.pins.specs.OnePin.{statusOf}
 use Rattle.pins.specs.Pin.{status}
 use Rattle.ports.specs.Ports.{byteOf}
-use Rattle.map.specs.Map.{Part, Kind, firstOf, kindAt, code, reserved, next, fileFits}
+use Rattle.map.specs.Map.{Part, Kind, firstOf, kindAt, code, reserved, nextIn, walked, registerCount, fileFits}
 use Rattle.map.specs.Map.Kind.{Status}
 use Rattle.map.proofs.ByNumber.{kind-is}
 use Rattle.registers.specs.Registers.{Core, onePin, written, fetched, shownAs, shown}
@@ -27,7 +28,7 @@ use Rattle.device_rules.specs.declared.Answer.{Answer}
 use Rattle.device_rules.specs.declared.Answer.the-variants.{Nothing, Ack, Byte}
 use Rattle.device_rules.proofs.Images.{known-small, start-taken, stop-taken, byte-taken, fetch-taken}
 use Rattle.device_demands.specs.Run.{Asked, after, answers}
-use Rattle.device_demands.specs.Transactions.{rightly, START, STOP, sent, toWrite, toRead, fetch as fetched-byte, sentAll, writeAllOver, Bytes, writtenFrom, numberAfter, acks, fetchedAll, readAllOn, readAllOver, shownFrom, fetchedFrom}
+use Rattle.device_demands.specs.Transactions.{rightly, START, STOP, sent, toWrite, toRead, fetch as fetched-byte, sentAll, numberIn, modeIn, writeAllOver, Bytes, writtenFrom, acks, fetchedAll, readAllOn, readAllOver, shownFrom, fetchedFrom}
 use Rattle.device_demands.proofs.Lawful.{Lawful, shown-place}
 use Rattle.device_demands.proofs.Keeps.{no-input, WellFormed, image-of, to, point-keeps, fill-keeps, fetch-keeps}
 
@@ -51,8 +52,8 @@ answers-ended p s = refl
 
 -- ---- what is kept right
 -- a state is known by its registers and pins, where its status set and line are right
-righted : (p : Part) (s : State) → WellFormed p s → (n b : ℕ) → state (s .regs) (s .interrupt) n b (s .choice) ≡ rightly p (s .regs) n b (s .choice)
-righted p s g n b = ap (λ (k : Interrupt). state (s .regs) k n b (s .choice)) (g .sound .right)
+righted : (p : Part) (s : State) → WellFormed p s → (n mode b : ℕ) → state (s .regs) (s .interrupt) n mode b (s .choice) ≡ rightly p (s .regs) n mode b (s .choice)
+righted p s g n mode b = ap (λ (k : Interrupt). state (s .regs) k n mode b (s .choice)) (g .sound .right)
 
 -- interrupt status, kept right, shows what the rules work out: a place of the last port that is no pin is no input, so that its bit is 0 in both
 module _ (p : Part) (ok : Lawful p) (r : Core) (fits : fileFits p (r .file) ≡ true) where
@@ -98,18 +99,18 @@ module _ (p : Part) (ok : Lawful p) (s : State) (g : WellFormed p s) where
   sent-byte b h = sym (byte-taken p s b (image-of p s (g .sound)) h)
 
   abbrev after-data : ℕ → Interrupt → State
-  after-data v k = state (written p (s .regs) (s .pointer) v) k (next p (s .pointer)) (number Filling) (s .choice)
+  after-data v k = state (written p (s .regs) (s .pointer) v) k (nextIn p (s .mode) (s .pointer)) (s .mode) (number Filling) (s .choice)
 
   rung : (v : ℕ) → ringsAtWrite p s v ≡ workedOut p (written p (s .regs) (s .pointer) v)
   rung v = kept-written p (s .regs) (s .interrupt) (g .sound .right) (ok .mapped) (g .full) (s .pointer) (g .sound .pointer-small) v
 
   -- a data byte in Filling
   pub data-byte : s .bus ≡ number Filling → (v : ℕ) → v < 256
-      → stepped p s 2 v ≡ out Ack (rightly p (written p (s .regs) (s .pointer) v) (next p (s .pointer)) (number Filling) (s .choice))
+      → stepped p s 2 v ≡ out Ack (rightly p (written p (s .regs) (s .pointer) v) (nextIn p (s .mode) (s .pointer)) (s .mode) (number Filling) (s .choice))
   unfolding step byteIn
   data-byte e v h = sent-byte v h ∙ simp e (ap (λ (k : Interrupt). out Ack (after-data v k)) (rung v))
 
-  data-kept : s .bus ≡ number Filling → (v : ℕ) → WellFormed p (rightly p (written p (s .regs) (s .pointer) v) (next p (s .pointer)) (number Filling) (s .choice))
+  data-kept : s .bus ≡ number Filling → (v : ℕ) → WellFormed p (rightly p (written p (s .regs) (s .pointer) v) (nextIn p (s .mode) (s .pointer)) (s .mode) (number Filling) (s .choice))
   unfolding byteIn
   data-kept e v = subst (λ (k : Interrupt). WellFormed p (after-data v k)) (rung v) (fill-keeps p ok s g v)
 
@@ -125,70 +126,69 @@ module _ (p : Part) (ok : Lawful p) (s : State) (g : WellFormed p s) where
       sent-byte p ok (goes s Opened) (to p ok s g Opened) (addressByte s + 1) (omega (arith, g .sound .choice-small))
       ∙ simp (ne-eqb (addressByte s + 1) (addressByte s) (λ e. omega arith), eq-eqb (addressByte s + 1) (addressByte s + 1) refl)
 
-  -- the state after START, the address byte and the command n
+  -- the state after START, the address byte and the command c
   abbrev pub filling : ℕ → State
-  filling n = state (s .regs) (s .interrupt) n (number Filling) (s .choice)
+  filling c = state (s .regs) (s .interrupt) (numberIn c) (modeIn c) (number Filling) (s .choice)
 
-  module _ (n : ℕ) (known : reserved p n ≡ false) where
-    pub command : stepped p (goes s Chosen) 2 n ≡ out Ack (filling n)
+  module _ (c : ℕ) (small : c < 256) (known : reserved p (numberIn c) ≡ false) where
+    pub command : stepped p (goes s Chosen) 2 c ≡ out Ack (filling c)
     unfolding step byteIn
-    command =
-        let small = known-small p n known in
-        sent-byte p ok (goes s Chosen) (to p ok s g Chosen) n (omega arith) ∙ simp known
+    command = sent-byte p ok (goes s Chosen) (to p ok s g Chosen) c small ∙ simp known
 
-    pub fills : WellFormed p (filling n)
-    fills = point-keeps p ok (goes s Chosen) (to p ok s g Chosen) n false known
+    pub fills : WellFormed p (filling c)
+    fills = point-keeps p ok (goes s Chosen) (to p ok s g Chosen) c false known
 
 -- ---- writes
 -- data bytes and STOP, in Filling
-module _ (p : Part) (ok : Lawful p) (choice : ℕ) where
+module _ (p : Part) (ok : Lawful p) (mode choice : ℕ) where
   abbrev Filled : Core → ℕ → State
-  Filled r n = rightly p r n (number Filling) choice
+  Filled r n = rightly p r n mode (number Filling) choice
 
   fill-all : (r : Core) (n : ℕ) → WellFormed p (Filled r n) → (vs : List ℕ) → Bytes vs
-      → after p (Filled r n) (sentAll vs) ≡ rightly p (writtenFrom p r n vs) (numberAfter p n (length vs)) (number Idle) choice
-  unfolding writtenFrom numberAfter
+      → after p (Filled r n) (sentAll vs) ≡ rightly p (writtenFrom p mode r n vs) (walked p mode n (length vs)) mode (number Idle) choice
+  unfolding writtenFrom walked
   fill-all r n g [] b = on p (Filled r n) STOP [] _ (stop p ok (Filled r n) g refl) ∙ ended p _
   fill-all r n g (v ∷ vs) b =
       on p (Filled r n) (sent v) _ _ (data-byte p ok (Filled r n) g refl v (b .0))
-      ∙ fill-all (written p r n v) (next p n) (data-kept p ok (Filled r n) g refl v) vs (b .1)
+      ∙ fill-all (written p r n v) (nextIn p mode n) (data-kept p ok (Filled r n) g refl v) vs (b .1)
 
   fill-answers : (r : Core) (n : ℕ) → WellFormed p (Filled r n) → (vs : List ℕ) → Bytes vs
       → answers p (Filled r n) (sentAll vs) ≡ acks vs (Nothing ∷ [])
   fill-answers r n g [] b = answers-on p (Filled r n) STOP [] _ (stop p ok (Filled r n) g refl) ∙ ap (λ (l : List Answer). Nothing ∷ l) (answers-ended p _)
   fill-answers r n g (v ∷ vs) b =
       answers-on p (Filled r n) (sent v) _ _ (data-byte p ok (Filled r n) g refl v (b .0))
-      ∙ ap (λ (l : List Answer). Ack ∷ l) (fill-answers (written p r n v) (next p n) (data-kept p ok (Filled r n) g refl v) vs (b .1))
+      ∙ ap (λ (l : List Answer). Ack ∷ l) (fill-answers (written p r n v) (nextIn p mode n) (data-kept p ok (Filled r n) g refl v) vs (b .1))
 
-module _ (p : Part) (ok : Lawful p) (s : State) (g : WellFormed p s) (n : ℕ) (known : reserved p n ≡ false) where
-  -- START, address byte, command, data bytes, STOP leave the registers written one after the other, Idle, the pointer stepped as often
+module _ (p : Part) (ok : Lawful p) (s : State) (g : WellFormed p s) (c : ℕ) (small : c < 256) (known : reserved p (numberIn c) ≡ false) where
+  -- START, address byte, command, data bytes, STOP leave the registers written one after the other, Idle, the pointer stepped as often by the command's mode, which stays
   pub bus-writes : (vs : List ℕ) → Bytes vs
-      → after p s (writeAllOver (s .choice) n vs) ≡ rightly p (writtenFrom p (s .regs) n vs) (numberAfter p n (length vs)) (number Idle) (s .choice)
+      → after p s (writeAllOver (s .choice) c vs)
+      ≡ rightly p (writtenFrom p (modeIn c) (s .regs) (numberIn c) vs) (walked p (modeIn c) (numberIn c) (length vs)) (modeIn c) (number Idle) (s .choice)
   bus-writes vs b =
-      on p s START _ _ (start p ok s g) ∙ on p (goes s Opened) (toWrite (s .choice)) _ _ (to-write p ok s g) ∙ on p (goes s Chosen) (sent n) _ _ (command p ok s g n known)
-      ∙ ap (λ (t : State). after p t (sentAll vs)) (righted p s g n (number Filling))
-      ∙ fill-all p ok (s .choice) (s .regs) n (subst (WellFormed p) (righted p s g n (number Filling)) (fills p ok s g n known)) vs b
+      on p s START _ _ (start p ok s g) ∙ on p (goes s Opened) (toWrite (s .choice)) _ _ (to-write p ok s g) ∙ on p (goes s Chosen) (sent c) _ _ (command p ok s g c small known)
+      ∙ ap (λ (t : State). after p t (sentAll vs)) (righted p s g (numberIn c) (modeIn c) (number Filling))
+      ∙ fill-all p ok (modeIn c) (s .choice) (s .regs) (numberIn c) (subst (WellFormed p) (righted p s g (numberIn c) (modeIn c) (number Filling)) (fills p ok s g c small known)) vs b
 
   -- and each of them is acknowledged
-  pub bus-writes-answers : (vs : List ℕ) → Bytes vs → answers p s (writeAllOver (s .choice) n vs) ≡ Nothing ∷ Ack ∷ Ack ∷ acks vs (Nothing ∷ [])
+  pub bus-writes-answers : (vs : List ℕ) → Bytes vs → answers p s (writeAllOver (s .choice) c vs) ≡ Nothing ∷ Ack ∷ Ack ∷ acks vs (Nothing ∷ [])
   bus-writes-answers vs b =
       answers-on p s START _ _ (start p ok s g)
       ∙ ap (λ (l : List Answer). Nothing ∷ l)
       (answers-on p (goes s Opened) (toWrite (s .choice)) _ _ (to-write p ok s g)
       ∙ ap (λ (l : List Answer). Ack ∷ l)
-      (answers-on p (goes s Chosen) (sent n) _ _ (command p ok s g n known)
+      (answers-on p (goes s Chosen) (sent c) _ _ (command p ok s g c small known)
       ∙ ap (λ (l : List Answer). Ack ∷ l)
-      (ap (λ (t : State). answers p t (sentAll vs)) (righted p s g n (number Filling))
-      ∙ fill-answers p ok (s .choice) (s .regs) n (subst (WellFormed p) (righted p s g n (number Filling)) (fills p ok s g n known)) vs b)))
+      (ap (λ (t : State). answers p t (sentAll vs)) (righted p s g (numberIn c) (modeIn c) (number Filling))
+      ∙ fill-answers p ok (modeIn c) (s .choice) (s .regs) (numberIn c) (subst (WellFormed p) (righted p s g (numberIn c) (modeIn c) (number Filling)) (fills p ok s g c small known)) vs b)))
 
 -- ---- reads
 -- fetches and STOP, in Sending
-module _ (p : Part) (ok : Lawful p) (choice : ℕ) where
+module _ (p : Part) (ok : Lawful p) (mode choice : ℕ) where
   abbrev Sent : Core → ℕ → State
-  Sent r n = rightly p r n (number Sending) choice
+  Sent r n = rightly p r n mode (number Sending) choice
 
   abbrev Left : Core → ℕ → State
-  Left r n = rightly p r n (number Deaf) choice
+  Left r n = rightly p r n mode (number Deaf) choice
 
   module _ (r : Core) (n : ℕ) (g : WellFormed p (Sent r n)) where
     settled : ringsAtFetch p (Sent r n) ≡ workedOut p (fetched p r n)
@@ -197,36 +197,36 @@ module _ (p : Part) (ok : Lawful p) (choice : ℕ) where
     shows : shownIn p (Sent r n) n ≡ shown p r n
     shows = shown-right p ok r (g .sound .file-fits) n (g .sound .pointer-small)
 
-    fetch-on : stepped p (Sent r n) 3 1 ≡ out (Byte (shown p r n)) (Sent (fetched p r n) (next p n))
+    fetch-on : stepped p (Sent r n) 3 1 ≡ out (Byte (shown p r n)) (Sent (fetched p r n) (nextIn p mode n))
     unfolding step fetchIn
     fetch-on =
         sym (fetch-taken p (Sent r n) 1 (image-of p (Sent r n) (g .sound)) (omega arith))
-        ∙ ap₂ (λ (b : ℕ) (k : Interrupt). out (Byte b) (state (fetched p r n) k (next p n) (number Sending) choice)) shows settled
+        ∙ ap₂ (λ (b : ℕ) (k : Interrupt). out (Byte b) (state (fetched p r n) k (nextIn p mode n) mode (number Sending) choice)) shows settled
 
     fetch-last : stepped p (Sent r n) 3 0 ≡ out (Byte (shown p r n)) (Left (fetched p r n) n)
     unfolding step fetchIn
     fetch-last =
         sym (fetch-taken p (Sent r n) 0 (image-of p (Sent r n) (g .sound)) (omega arith))
-        ∙ ap₂ (λ (b : ℕ) (k : Interrupt). out (Byte b) (state (fetched p r n) k n (number Deaf) choice)) shows settled
+        ∙ ap₂ (λ (b : ℕ) (k : Interrupt). out (Byte b) (state (fetched p r n) k n mode (number Deaf) choice)) shows settled
 
-    on-kept : WellFormed p (Sent (fetched p r n) (next p n))
+    on-kept : WellFormed p (Sent (fetched p r n) (nextIn p mode n))
     unfolding fetchIn
-    on-kept = subst (λ (k : Interrupt). WellFormed p (state (fetched p r n) k (next p n) (number Sending) choice)) settled (fetch-keeps p ok (Sent r n) g true)
+    on-kept = subst (λ (k : Interrupt). WellFormed p (state (fetched p r n) k (nextIn p mode n) mode (number Sending) choice)) settled (fetch-keeps p ok (Sent r n) g true)
 
     last-kept : WellFormed p (Left (fetched p r n) n)
     unfolding fetchIn
-    last-kept = subst (λ (k : Interrupt). WellFormed p (state (fetched p r n) k n (number Deaf) choice)) settled (fetch-keeps p ok (Sent r n) g false)
+    last-kept = subst (λ (k : Interrupt). WellFormed p (state (fetched p r n) k n mode (number Deaf) choice)) settled (fetch-keeps p ok (Sent r n) g false)
 
   fetch-all : (r : Core) (n : ℕ) → WellFormed p (Sent r n) → (more : ℕ)
-      → after p (Sent r n) (fetchedAll more) ≡ rightly p (fetchedFrom p r n more) (numberAfter p n more) (number Idle) choice
-  unfolding fetchedFrom numberAfter
+      → after p (Sent r n) (fetchedAll more) ≡ rightly p (fetchedFrom p mode r n more) (walked p mode n more) mode (number Idle) choice
+  unfolding fetchedFrom walked
   fetch-all r n g zero =
       on p (Sent r n) (fetched-byte false) _ _ (fetch-last r n g)
       ∙ on p (Left (fetched p r n) n) STOP [] _ (stop p ok (Left (fetched p r n) n) (last-kept r n g) refl) ∙ ended p _
   fetch-all r n g (suc more) =
-      on p (Sent r n) (fetched-byte true) _ _ (fetch-on r n g) ∙ fetch-all (fetched p r n) (next p n) (on-kept r n g) more
+      on p (Sent r n) (fetched-byte true) _ _ (fetch-on r n g) ∙ fetch-all (fetched p r n) (nextIn p mode n) (on-kept r n g) more
 
-  fetch-answers : (r : Core) (n : ℕ) → WellFormed p (Sent r n) → (more : ℕ) → answers p (Sent r n) (fetchedAll more) ≡ shownFrom p r n more (Nothing ∷ [])
+  fetch-answers : (r : Core) (n : ℕ) → WellFormed p (Sent r n) → (more : ℕ) → answers p (Sent r n) (fetchedAll more) ≡ shownFrom p mode r n more (Nothing ∷ [])
   unfolding shownFrom
   fetch-answers r n g zero =
       answers-on p (Sent r n) (fetched-byte false) _ _ (fetch-last r n g)
@@ -234,41 +234,57 @@ module _ (p : Part) (ok : Lawful p) (choice : ℕ) where
       (answers-on p (Left (fetched p r n) n) STOP [] _ (stop p ok (Left (fetched p r n) n) (last-kept r n g) refl) ∙ ap (λ (l : List Answer). Nothing ∷ l) (answers-ended p _))
   fetch-answers r n g (suc more) =
       answers-on p (Sent r n) (fetched-byte true) _ _ (fetch-on r n g)
-      ∙ ap (λ (l : List Answer). Byte (shown p r n) ∷ l) (fetch-answers (fetched p r n) (next p n) (on-kept r n g) more)
+      ∙ ap (λ (l : List Answer). Byte (shown p r n) ∷ l) (fetch-answers (fetched p r n) (nextIn p mode n) (on-kept r n g) more)
 
 module _ (p : Part) (ok : Lawful p) (s : State) (g : WellFormed p s) where
   -- START, address byte plus 1, fetches: the bytes from the pointer on
   pub bus-reads-on : (more : ℕ)
-      → after p s (readAllOn (s .choice) more) ≡ rightly p (fetchedFrom p (s .regs) (s .pointer) more) (numberAfter p (s .pointer) more) (number Idle) (s .choice)
+      → after p s (readAllOn (s .choice) more) ≡ rightly p (fetchedFrom p (s .mode) (s .regs) (s .pointer) more) (walked p (s .mode) (s .pointer) more) (s .mode) (number Idle) (s .choice)
   bus-reads-on more =
       on p s START _ _ (start p ok s g) ∙ on p (goes s Opened) (toRead (s .choice)) _ _ (to-read p ok s g)
-      ∙ ap (λ (t : State). after p t (fetchedAll more)) (righted p s g (s .pointer) (number Sending))
-      ∙ fetch-all p ok (s .choice) (s .regs) (s .pointer) (subst (WellFormed p) (righted p s g (s .pointer) (number Sending)) (to p ok s g Sending)) more
+      ∙ ap (λ (t : State). after p t (fetchedAll more)) (righted p s g (s .pointer) (s .mode) (number Sending))
+      ∙ fetch-all p ok (s .mode) (s .choice) (s .regs) (s .pointer) (subst (WellFormed p) (righted p s g (s .pointer) (s .mode) (number Sending)) (to p ok s g Sending)) more
 
   pub bus-reads-on-answers : (more : ℕ)
-      → answers p s (readAllOn (s .choice) more) ≡ Nothing ∷ Ack ∷ shownFrom p (s .regs) (s .pointer) more (Nothing ∷ [])
+      → answers p s (readAllOn (s .choice) more) ≡ Nothing ∷ Ack ∷ shownFrom p (s .mode) (s .regs) (s .pointer) more (Nothing ∷ [])
   bus-reads-on-answers more =
       answers-on p s START _ _ (start p ok s g)
       ∙ ap (λ (l : List Answer). Nothing ∷ l)
       (answers-on p (goes s Opened) (toRead (s .choice)) _ _ (to-read p ok s g)
       ∙ ap (λ (l : List Answer). Ack ∷ l)
-      (ap (λ (t : State). answers p t (fetchedAll more)) (righted p s g (s .pointer) (number Sending))
-      ∙ fetch-answers p ok (s .choice) (s .regs) (s .pointer) (subst (WellFormed p) (righted p s g (s .pointer) (number Sending)) (to p ok s g Sending)) more))
+      (ap (λ (t : State). answers p t (fetchedAll more)) (righted p s g (s .pointer) (s .mode) (number Sending))
+      ∙ fetch-answers p ok (s .mode) (s .choice) (s .regs) (s .pointer) (subst (WellFormed p) (righted p s g (s .pointer) (s .mode) (number Sending)) (to p ok s g Sending)) more))
 
--- the command n first: the bytes from register n on
-module _ (p : Part) (ok : Lawful p) (s : State) (g : WellFormed p s) (n : ℕ) (known : reserved p n ≡ false) (more : ℕ) where
-  pub bus-reads : after p s (readAllOver (s .choice) n more)
-      ≡ rightly p (fetchedFrom p (s .regs) n more) (numberAfter p n more) (number Idle) (s .choice)
+-- a command first: the bytes from its register on, by its mode
+module _ (p : Part) (ok : Lawful p) (s : State) (g : WellFormed p s) (c : ℕ) (small : c < 256) (known : reserved p (numberIn c) ≡ false) (more : ℕ) where
+  pub bus-reads : after p s (readAllOver (s .choice) c more)
+      ≡ rightly p (fetchedFrom p (modeIn c) (s .regs) (numberIn c) more) (walked p (modeIn c) (numberIn c) more) (modeIn c) (number Idle) (s .choice)
   bus-reads =
-      on p s START _ _ (start p ok s g) ∙ on p (goes s Opened) (toWrite (s .choice)) _ _ (to-write p ok s g) ∙ on p (goes s Chosen) (sent n) _ _ (command p ok s g n known)
-      ∙ bus-reads-on p ok (filling p ok s g n) (fills p ok s g n known) more
+      on p s START _ _ (start p ok s g) ∙ on p (goes s Opened) (toWrite (s .choice)) _ _ (to-write p ok s g) ∙ on p (goes s Chosen) (sent c) _ _ (command p ok s g c small known)
+      ∙ bus-reads-on p ok (filling p ok s g c) (fills p ok s g c small known) more
 
-  pub bus-reads-answers : answers p s (readAllOver (s .choice) n more)
-      ≡ Nothing ∷ Ack ∷ Ack ∷ Nothing ∷ Ack ∷ shownFrom p (s .regs) n more (Nothing ∷ [])
+  pub bus-reads-answers : answers p s (readAllOver (s .choice) c more)
+      ≡ Nothing ∷ Ack ∷ Ack ∷ Nothing ∷ Ack ∷ shownFrom p (modeIn c) (s .regs) (numberIn c) more (Nothing ∷ [])
   bus-reads-answers =
       answers-on p s START _ _ (start p ok s g)
       ∙ ap (λ (l : List Answer). Nothing ∷ l)
       (answers-on p (goes s Opened) (toWrite (s .choice)) _ _ (to-write p ok s g)
       ∙ ap (λ (l : List Answer). Ack ∷ l)
-      (answers-on p (goes s Chosen) (sent n) _ _ (command p ok s g n known)
-      ∙ ap (λ (l : List Answer). Ack ∷ l) (bus-reads-on-answers p ok (filling p ok s g n) (fills p ok s g n known) more)))
+      (answers-on p (goes s Chosen) (sent c) _ _ (command p ok s g c small known)
+      ∙ ap (λ (l : List Answer). Ack ∷ l) (bus-reads-on-answers p ok (filling p ok s g c) (fills p ok s g c small known) more)))
+
+-- ---- a command with bit 7 clear
+-- is the number itself, and its mode is 0
+pub clear-number : (p : Part) (n : ℕ) → reserved p n ≡ false → numberIn n ≡ n
+clear-number p n known = let h : n < 128 = known-small p n known in mod-eq-of-lt h
+
+pub clear-mode : (p : Part) (n : ℕ) → reserved p n ≡ false → modeIn n ≡ 0
+clear-mode p n known =
+    let h : n < 128 = known-small p n known in
+    let q : n / 128 ≡ 0 = omega (arith, div-add-mod' n 128) in
+    ap (λ (m : ℕ). m % 2) q
+
+-- ---- over the whole map
+-- after as many data bytes as the part has registers, written or fetched in mode 1, the pointer is where it was
+pub full-round : (p : Part) → Lawful p → (n : ℕ) → reserved p n ≡ false → walked p 1 n (registerCount p) ≡ n
+full-round p ok n known = eqb-true _ n (simp known at (ok .rounds n (known-small p n known)))

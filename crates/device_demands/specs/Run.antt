@@ -90,7 +90,7 @@ unrefused [] = []
 unrefused (x ∷ xs) = record { answer = x .answer; low = driven 0 (x .low); high = driven 0 (x .high); int = line 0 (x .int) } ∷ unrefused xs
 
 -- ---- what the code's types hold
--- a device: 128 bytes, five pin sets of 64 bits, five bytes
+-- a device: 128 bytes, five pin sets of 64 bits, six bytes
 pub record Represented (d : Device) : Type 0 where
   pub part : d .part < 2 ^ 8
   pub entries : length (d .file) ≡ 128
@@ -104,6 +104,7 @@ pub record Represented (d : Device) : Type 0 where
   pub choice : d .choice < 2 ^ 8
   pub status : d .status < 2 ^ 64
   pub line : d .line < 2 ^ 8
+  pub mode : d .mode < 2 ^ 8
 
 -- events: a kind of 32 bits, an argument of 64
 abbrev pub Askable : List Asked → Type 0

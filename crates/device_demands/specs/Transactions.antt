@@ -1,9 +1,9 @@
 -- Whole transactions on the bus.
 use mathlib.Core.Bool.{Bool, true, false}
 use mathlib.Core.List.{List, [], _∷_}
-use Prim.Native.Nat.{ℕ, zero, suc, _+_, _*_, _<_}
+use Prim.Native.Nat.{ℕ, zero, suc, _+_, _*_, _/_, _%_, _<_}
 use Rattle.bits.specs.Bits.{val}
-use Rattle.map.specs.Map.{Part, next}
+use Rattle.map.specs.Map.{Part, nextIn}
 use Rattle.registers.specs.Registers.{Core, written, fetched, shown}
 use Rattle.registers.specs.Interrupt.{workedOut}
 use Rattle.device_rules.specs.Device.{State, state}
@@ -12,8 +12,8 @@ use Rattle.device_rules.specs.declared.Answer.the-variants.{Ack, Byte}
 use Rattle.device_demands.specs.Run.{Asked}
 
 -- a state whose status set and line are what the rules work out
-abbrev pub rightly : Part → Core → (pointer bus choice : ℕ) → State
-rightly p r pointer bus choice = state r (workedOut p r) pointer bus choice
+abbrev pub rightly : Part → Core → (pointer mode bus choice : ℕ) → State
+rightly p r pointer mode bus choice = state r (workedOut p r) pointer mode bus choice
 
 abbrev pub ask : (kind arg : ℕ) → Asked
 ask kind arg = record { kind = kind; arg = arg }
@@ -44,11 +44,18 @@ abbrev pub sentAll : List ℕ → List Asked
 sentAll [] = STOP ∷ []
 sentAll (v ∷ vs) = sent v ∷ sentAll vs
 
--- the command n and then data bytes
-abbrev pub writeAllOver : (choice n : ℕ) → List ℕ → List Asked
-writeAllOver choice n vs = START ∷ toWrite choice ∷ sent n ∷ sentAll vs
+-- a command's low seven bits are a register's number, bit 7 is the mode
+abbrev pub numberIn : (command : ℕ) → ℕ
+numberIn command = command % 128
 
--- register n is written with v
+abbrev pub modeIn : (command : ℕ) → ℕ
+modeIn command = command / 128 % 2
+
+-- a command and then data bytes
+abbrev pub writeAllOver : (choice command : ℕ) → List ℕ → List Asked
+writeAllOver choice command vs = START ∷ toWrite choice ∷ sent command ∷ sentAll vs
+
+-- register n is written with v; bit 7 is clear
 abbrev pub writeOver : (choice n v : ℕ) → List Asked
 writeOver choice n v = writeAllOver choice n (v ∷ [])
 
@@ -57,15 +64,11 @@ abbrev pub Bytes : List ℕ → Type 0
 Bytes [] = Unit {0}
 Bytes (v ∷ vs) = (v < 256) × Bytes vs
 
--- the registers written one after the other, from number n on at successive numbers of its group
-unfoldable pub writtenFrom : Part → Core → (n : ℕ) → List ℕ → Core
-writtenFrom p r n [] = r
-writtenFrom p r n (v ∷ vs) = writtenFrom p (written p r n v) (next p n) vs
-
--- the number after so many bytes
-unfoldable pub numberAfter : Part → (n count : ℕ) → ℕ
-numberAfter p n zero = n
-numberAfter p n (suc count) = numberAfter p (next p n) count
+-- the registers written one after the other, from number n on at successive numbers of its group or, in mode 1, of the whole map: read-only registers
+-- among them stay, and clear registers settle the pins of their bits
+unfoldable pub writtenFrom : Part → (mode : ℕ) → Core → (n : ℕ) → List ℕ → Core
+writtenFrom p mode r n [] = r
+writtenFrom p mode r n (v ∷ vs) = writtenFrom p mode (written p r n v) (nextIn p mode n) vs
 
 -- an acknowledge for each
 abbrev pub acks : List ℕ → (then : List Answer) → List Answer
@@ -82,19 +85,20 @@ fetchedAll (suc more) = fetch true ∷ fetchedAll more
 abbrev pub readAllOn : (choice more : ℕ) → List Asked
 readAllOn choice more = START ∷ toRead choice ∷ fetchedAll more
 
--- the command n first
-abbrev pub readAllOver : (choice n more : ℕ) → List Asked
-readAllOver choice n more = START ∷ toWrite choice ∷ sent n ∷ readAllOn choice more
+-- a command first
+abbrev pub readAllOver : (choice command more : ℕ) → List Asked
+readAllOver choice command more = START ∷ toWrite choice ∷ sent command ∷ readAllOn choice more
 
--- the bytes that are shown, from number n on at successive numbers of its group: each fetch does to the pins what it does before the next byte is formed
-unfoldable pub shownFrom : Part → Core → (n more : ℕ) → (then : List Answer) → List Answer
-shownFrom p r n zero then = Byte (shown p r n) ∷ then
-shownFrom p r n (suc more) then = Byte (shown p r n) ∷ shownFrom p (fetched p r n) (next p n) more then
+-- the bytes that are shown, from number n on at successive numbers of its group or of the whole map: each fetch does to the pins what it does before the next
+-- byte is formed, so that every input port that is passed is settled
+unfoldable pub shownFrom : Part → (mode : ℕ) → Core → (n more : ℕ) → (then : List Answer) → List Answer
+shownFrom p mode r n zero then = Byte (shown p r n) ∷ then
+shownFrom p mode r n (suc more) then = Byte (shown p r n) ∷ shownFrom p mode (fetched p r n) (nextIn p mode n) more then
 
 -- and what is left of registers and pins
-unfoldable pub fetchedFrom : Part → Core → (n more : ℕ) → Core
-fetchedFrom p r n zero = fetched p r n
-fetchedFrom p r n (suc more) = fetchedFrom p (fetched p r n) (next p n) more
+unfoldable pub fetchedFrom : Part → (mode : ℕ) → Core → (n more : ℕ) → Core
+fetchedFrom p mode r n zero = fetched p r n
+fetchedFrom p mode r n (suc more) = fetchedFrom p mode (fetched p r n) (nextIn p mode n) more
 
 -- ---- one byte, as the bench points have it
 -- the command n is set, and a byte is fetched

@@ -60,19 +60,22 @@ pub sound-of : (p : Part) (s : State) → imageFits p s ≡ true → Sound p s
 unfolding imageFits
 sound-of p s e =
     let r = not (reserved p (s .pointer)) in
+    let m = ltb (s .mode) 2 in
     let b = ltb (s .bus) 8 in
     let c = ltb (s .choice) 4 in
     let x = setsFit p (s .regs .sets) in
     let f = fileFits p (s .regs .file) in
     let k = interruptFits p s in
-    let t = and-right r (b && (c && (x && (f && k)))) e in
+    let o = and-right r (m && (b && (c && (x && (f && k))))) e in
+    let t = and-right m (b && (c && (x && (f && k)))) o in
     let u = and-right b (c && (x && (f && k))) t in
     let v = and-right c (x && (f && k)) u in
     let y = and-right x (f && k) v in
-    let known = not-true (reserved p (s .pointer)) (and-left r (b && (c && (x && (f && k)))) e) in
+    let known = not-true (reserved p (s .pointer)) (and-left r (m && (b && (c && (x && (f && k))))) e) in
     record {
       pointer-small = known-small p (s .pointer) known;
       pointer-known = known;
+      mode-small = ltb-true (s .mode) 2 (and-left m (b && (c && (x && (f && k)))) o);
       bus-small = ltb-true (s .bus) 8 (and-left b (c && (x && (f && k))) t);
       choice-small = ltb-true (s .choice) 4 (and-left c (x && (f && k)) u);
       within = within-of p (s .regs .sets) (and-left x (f && k) v);

@@ -27,11 +27,11 @@ module _ (p : Part) (choice levels : ℕ) where
   none-over fits h = simp (le-leb choice 3 (omega arith), lt-ltb levels (2 ^ p .width) h)
 
   abbrev at-power-on : List ℕ → State
-  at-power-on file = state (core file (record { level = levels; reference = levels; held = 0; edge = 0 })) quiet 0 0 choice
+  at-power-on file = state (core file (record { level = levels; reference = levels; held = 0; edge = 0 })) quiet 0 0 0 choice
 
   pub made-of : {n : ℕ} {file : List ℕ} → n ≡ makingRefused p choice levels → file ≡ defaults p → MadeOf p choice levels n (at-power-on file)
   unfolding powerOn
-  made-of {n} {file} q e = record { number = q; made = same-state (same e refl) refl refl refl refl; none = λ z. fits-not z (imageFits p (at-power-on file)) refl }
+  made-of {n} {file} q e = record { number = q; made = same-state (same e refl) refl refl refl refl refl; none = λ z. fits-not z (imageFits p (at-power-on file)) refl }
     where
       fits-not : makingRefused p choice levels ≡ 2 → (b : Bool) → imageFits p (at-power-on file) ≡ b → imageFits p (at-power-on file) ≡ false
       fits-not z true i =

@@ -9,8 +9,8 @@ use Rattle.device_rules.specs.Device.Bus.{Deaf}
 use Rattle.device_rules.specs.Device.Event.{ByteSent, ByteFetched}
 use Rattle.device_rules.specs.declared.Answer.the-variants.{Nak, Byte}
 
-pub same-state : {a b : State} → a .regs ≡ b .regs → a .interrupt ≡ b .interrupt → a .pointer ≡ b .pointer → a .bus ≡ b .bus → a .choice ≡ b .choice → a ≡ b
-same-state regs interrupt pointer bus choice = λ j. record { regs = regs j; interrupt = interrupt j; pointer = pointer j; bus = bus j; choice = choice j }
+pub same-state : {a b : State} → a .regs ≡ b .regs → a .interrupt ≡ b .interrupt → a .pointer ≡ b .pointer → a .mode ≡ b .mode → a .bus ≡ b .bus → a .choice ≡ b .choice → a ≡ b
+same-state regs interrupt pointer mode bus choice = λ j. record { regs = regs j; interrupt = interrupt j; pointer = pointer j; mode = mode j; bus = bus j; choice = choice j }
 
 module _ (p : Part) (s : State) where
   -- what the rule of bus state n says is what a byte does if the device is in it
@@ -29,7 +29,7 @@ module _ (p : Part) (s : State) where
   taken-by-none b (suc (suc (suc (suc zero)))) e h z0 z1 z2 z3 z5 = refl
   taken-by-none b (suc (suc (suc (suc (suc zero))))) e h z0 z1 z2 z3 z5 = absurd (z5 refl)
   taken-by-none b (suc (suc (suc (suc (suc (suc zero)))))) e h z0 z1 z2 z3 z5 = refl
-  taken-by-none b (suc (suc (suc (suc (suc (suc (suc zero))))))) e h z0 z1 z2 z3 z5 = ap (out Nak) (same-state refl refl refl (sym e) refl)
+  taken-by-none b (suc (suc (suc (suc (suc (suc (suc zero))))))) e h z0 z1 z2 z3 z5 = ap (out Nak) (same-state refl refl refl refl (sym e) refl)
   taken-by-none b (suc (suc (suc (suc (suc (suc (suc (suc n)))))))) e h z0 z1 z2 z3 z5 = absurd (omega arith)
 
   pub no-byte : (b : ℕ) → s .bus < 8 → (s .bus ≡ 0 → ⊥) → (s .bus ≡ 1 → ⊥) → (s .bus ≡ 2 → ⊥) → (s .bus ≡ 3 → ⊥) → (s .bus ≡ 5 → ⊥)

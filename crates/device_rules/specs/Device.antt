@@ -1,12 +1,12 @@
 -- The device: its state, what each event does to it, and what it answers.
 use mathlib.Core.Bool.{Bool, cond}
 use mathlib.Core.List.{[], _∷_}
-use Prim.Native.Nat.{ℕ, _+_, _*_}
+use Prim.Native.Nat.{ℕ, _+_, _*_, _/_, _%_}
 use lib.Dec.{eqb}
 use lib.ListN.{getD}
 use Rattle.pins.specs.Pin.{reset}
 use Rattle.pins.specs.AllPins.{mapPins}
-use Rattle.map.specs.Map.{Part, kindAt, reserved, next, defaults}
+use Rattle.map.specs.Map.{Part, kindAt, reserved, nextIn, defaults}
 use Rattle.registers.specs.Registers.{Core, core, written, fetched, levelled}
 use Rattle.registers.specs.Interrupt.{Interrupt, ringsWritten, ringsFetched, ringsLevelled, quiet, shownKept}
 use Rattle.device_rules.specs.declared.Answer.{Answer}
@@ -29,16 +29,17 @@ number Deaf = 7
 abbrev pub busAt : ℕ → Bus
 busAt n = getD (Idle ∷ Opened ∷ Chosen ∷ Filling ∷ Sending ∷ Call ∷ Armed ∷ Deaf ∷ []) n Deaf
 
--- registers and pins; what is kept of the interrupt; the pointer; the bus state's number; the address choice
+-- registers and pins; what is kept of the interrupt; the pointer, and the mode beside it: 0 it steps in its group, 1 over the whole map; the bus state's number; the address choice
 pub record State : Type 0 where
   pub regs : Core
   pub interrupt : Interrupt
   pub pointer : ℕ
+  pub mode : ℕ
   pub bus : ℕ
   pub choice : ℕ
 
-abbrev pub state : Core → Interrupt → (pointer bus choice : ℕ) → State
-state regs interrupt pointer bus choice = record { regs = regs; interrupt = interrupt; pointer = pointer; bus = bus; choice = choice }
+abbrev pub state : Core → Interrupt → (pointer mode bus choice : ℕ) → State
+state regs interrupt pointer mode bus choice = record { regs = regs; interrupt = interrupt; pointer = pointer; mode = mode; bus = bus; choice = choice }
 
 -- an answer, and the state after
 pub record Outcome : Type 0 where
@@ -49,15 +50,15 @@ abbrev pub out : Answer → State → Outcome
 out answer after = record { answer = answer; after = after }
 
 abbrev pub goes : State → Bus → State
-goes s b = state (s .regs) (s .interrupt) (s .pointer) (number b) (s .choice)
+goes s b = state (s .regs) (s .interrupt) (s .pointer) (s .mode) (number b) (s .choice)
 
 -- Address choice 0, 1, 2, 3 gives seven-bit address 20h, 21h, 22h, 23h; the address byte is twice it, plus 1 to read.
 abbrev pub addressByte : State → ℕ
 addressByte s = 2 * (0x20 + s .choice)
 
--- Reset, of whatever kind: defaults, pointer 00h, Idle, no events held, each reference at the present level; no status bit, INT quiet. Levels and address stay.
+-- Reset, of whatever kind: defaults, pointer 00h, mode 0, Idle, no events held, each reference at the present level; no status bit, INT quiet. Levels and address stay.
 unfoldable pub resetted : Part → State → State
-resetted p s = state (core (defaults p) (mapPins (p .width) (s .regs .sets) (λ i. reset))) quiet 0 (number Idle) (s .choice)
+resetted p s = state (core (defaults p) (mapPins (p .width) (s .regs .sets) (λ i. reset))) quiet 0 0 (number Idle) (s .choice)
 
 -- the register at the pointer is written with b, or fetched: status set and line follow where that can change them
 abbrev pub ringsAtWrite : Part → State → (b : ℕ) → Interrupt
@@ -75,10 +76,10 @@ unfoldable pub byteIn : Part → Bus → State → (b : ℕ) → Outcome
 byteIn p Opened s b =
     cond (eqb b (addressByte s)) (out Ack (goes s Chosen))
     (cond (eqb b (addressByte s + 1)) (out Ack (goes s Sending)) (cond (eqb b 0x00) (out Ack (goes s Call)) (out Nak (goes s Deaf))))
--- a command number that is not reserved becomes the pointer; else the pointer is kept
-byteIn p Chosen s b = cond (reserved p b) (out Nak (goes s Deaf)) (out Ack (state (s .regs) (s .interrupt) b (number Filling) (s .choice)))
+-- a command whose low seven bits are not reserved: they become the pointer, and bit 7 the mode; else both are kept
+byteIn p Chosen s b = cond (reserved p (b % 128)) (out Nak (goes s Deaf)) (out Ack (state (s .regs) (s .interrupt) (b % 128) (b / 128 % 2) (number Filling) (s .choice)))
 -- the register at the pointer is written, and the pointer steps
-byteIn p Filling s b = out Ack (state (written p (s .regs) (s .pointer) b) (ringsAtWrite p s b) (next p (s .pointer)) (number Filling) (s .choice))
+byteIn p Filling s b = out Ack (state (written p (s .regs) (s .pointer) b) (ringsAtWrite p s b) (nextIn p (s .mode) (s .pointer)) (s .mode) (number Filling) (s .choice))
 byteIn p Call s b = cond (eqb b 0x06) (out Ack (goes s Armed)) (out Nak (goes s Deaf))
 byteIn p Armed s b = out Nak (goes s Deaf)
 byteIn p Sending s b = out Nak (goes s Deaf)
@@ -90,8 +91,8 @@ byteIn p Deaf s b = out Nak s
 unfoldable pub fetchIn : Part → Bus → State → (acknowledged : Bool) → Outcome
 fetchIn p Sending s acknowledged =
     out (Byte (shownIn p s (s .pointer)))
-    (cond acknowledged (state (fetched p (s .regs) (s .pointer)) (ringsAtFetch p s) (next p (s .pointer)) (number Sending) (s .choice))
-    (state (fetched p (s .regs) (s .pointer)) (ringsAtFetch p s) (s .pointer) (number Deaf) (s .choice)))
+    (cond acknowledged (state (fetched p (s .regs) (s .pointer)) (ringsAtFetch p s) (nextIn p (s .mode) (s .pointer)) (s .mode) (number Sending) (s .choice))
+    (state (fetched p (s .regs) (s .pointer)) (ringsAtFetch p s) (s .pointer) (s .mode) (number Deaf) (s .choice)))
 fetchIn p Idle s acknowledged = out (Byte 0xff) s
 fetchIn p Opened s acknowledged = out (Byte 0xff) s
 fetchIn p Chosen s acknowledged = out (Byte 0xff) s
@@ -108,11 +109,11 @@ pub data Event : Type 0 where
   Levels : (new : ℕ) → Event
 
 unfoldable pub step : Part → State → Event → Outcome
--- START goes to Opened from any state; the pointer stays
+-- START goes to Opened from any state; pointer and mode stay
 step p s Start = out Nothing (goes s Opened)
 -- STOP goes to Idle; from Armed the device resets first
 step p s Stop = out Nothing (cond (eqb (s .bus) (number Armed)) (resetted p s) (goes s Idle))
 step p s (ByteSent b) = byteIn p (busAt (s .bus)) s b
 step p s (ByteFetched acknowledged) = fetchIn p (busAt (s .bus)) s acknowledged
-step p s (Levels new) = out Nothing (state (levelled p (s .regs) new) (ringsLevelled p (s .regs) (s .interrupt) new) (s .pointer) (s .bus) (s .choice))
+step p s (Levels new) = out Nothing (state (levelled p (s .regs) new) (ringsLevelled p (s .regs) (s .interrupt) new) (s .pointer) (s .mode) (s .bus) (s .choice))
 step p s HardwareReset = out Nothing (resetted p s)

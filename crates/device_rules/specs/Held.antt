@@ -11,11 +11,12 @@ use Rattle.device_rules.specs.Device.{State, state}
 use Rattle.device_rules.specs.declared.Rest.{Rest}
 
 abbrev pub stateOf : List ℕ → Rest → State
-stateOf file r = state (core file (r .sets)) (interrupt (r .status) (r .line)) (r .pointer) (r .bus) (r .choice)
+stateOf file r = state (core file (r .sets)) (interrupt (r .status) (r .line)) (r .pointer) (r .mode) (r .bus) (r .choice)
 
 pub record Sound (p : Part) (s : State) : Type 0 where
   pub pointer-small : s .pointer < 128
   pub pointer-known : reserved p (s .pointer) ≡ false
+  pub mode-small : s .mode < 2
   pub bus-small : s .bus < 8
   pub choice-small : s .choice < 4
   pub within : Within (p .width) (s .regs .sets)

@@ -10,10 +10,10 @@ use Rattle.device_rules.specs.Device.{State, state, number}
 use Rattle.device_rules.specs.Refusals.{imageFits}
 use Rattle.device_rules.specs.Device.Bus.{Idle}
 
--- Power-on: defaults, pointer 00h, Idle, no events held, each reference at the present level; no status bit, INT quiet.
+-- Power-on: defaults, pointer 00h, mode 0, Idle, no events held, each reference at the present level; no status bit, INT quiet.
 unfoldable pub powerOn : Part → (choice levels : ℕ) → State
 powerOn p choice levels =
-    state (core (defaults p) (record { level = levels; reference = levels; held = 0; edge = 0 })) quiet 0 (number Idle) choice
+    state (core (defaults p) (record { level = levels; reference = levels; held = 0; edge = 0 })) quiet 0 0 (number Idle) choice
 
 -- refusal 2: an address choice over 3, or levels of other pins than the part's; 0 is none
 abbrev pub makingRefused : Part → (choice levels : ℕ) → ℕ

@@ -16,7 +16,7 @@ abbrev pub eventOf : (kind arg : ℕ) → Event
 eventOf kind arg = getD (Start ∷ Stop ∷ ByteSent arg ∷ ByteFetched (eqb arg 1) ∷ Levels arg ∷ []) kind HardwareReset
 
 -- ---- refusals, by their numbers; 0 is none
--- 3: pointer reserved or over 7Fh, bus state over 7, address choice over 3, a pin set that has other pins than the part's,
+-- 3: pointer reserved or over 7Fh, mode over 1, bus state over 7, address choice over 3, a pin set that has other pins than the part's,
 -- an entry of the file that may not stand there, or a status set or a line that is not what the rules work out
 unfoldable pub setsFit : Part → Sets → Bool
 setsFit p x = ltb (x .level) (2 ^ p .width) && (ltb (x .reference) (2 ^ p .width) && (ltb (x .held) (2 ^ p .width) && ltb (x .edge) (2 ^ p .width)))
@@ -27,7 +27,7 @@ interruptFits p s = eqb (s .interrupt .status) (workedOut p (s .regs) .status) &
 unfoldable pub imageFits : Part → State → Bool
 imageFits p s =
     not (reserved p (s .pointer))
-    && (ltb (s .bus) 8 && (ltb (s .choice) 4 && (setsFit p (s .regs .sets) && (fileFits p (s .regs .file) && interruptFits p s))))
+    && (ltb (s .mode) 2 && (ltb (s .bus) 8 && (ltb (s .choice) 4 && (setsFit p (s .regs .sets) && (fileFits p (s .regs .file) && interruptFits p s)))))
 
 -- what an argument of the kind must be below; START, STOP and reset ignore it
 abbrev pub argumentFits : Part → (kind arg : ℕ) → Bool

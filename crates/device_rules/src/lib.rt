@@ -18,6 +18,7 @@ pub struct Rest {
     pub choice: u8,
     pub status: u64,
     pub line: u8,
+    pub mode: u8,
 }
 
 // The line, INT's level, where no status bit is 1.

@@ -16,6 +16,7 @@ use words::EDGE;
 use words::HELD;
 use words::LEVEL;
 use words::LINE;
+use words::MODE;
 use words::POINTER;
 use words::REFERENCE;
 use words::STATUS;
@@ -109,7 +110,7 @@ fn pack(
     part: u64,
     pins: &[u64; 4],
     registers: &[u8; 128],
-    rest: &[u64; 5],
+    rest: &[u64; 6],
 ) -> u32
     requires { ⌜ part < 2 ⌝ }
     ensures { λ r. ⌜ FromImage part (imageIn (now (pins .entry)) (now (registers .entry)) (now (rest .entry))) r (now (words .entry)) (now (words .exit)) ⌝ }
@@ -130,6 +131,7 @@ fn pack(
         rest[2],
         rest[3],
         rest[4],
+        rest[5],
     ) {
         return DONE;
     }
@@ -142,7 +144,7 @@ fn unpack(
     part: u64,
     pins: &mut [u64; 4],
     registers: &mut [u8; 128],
-    rest: &mut [u64; 5],
+    rest: &mut [u64; 6],
 ) -> u32
     ensures { λ r. ⌜ ToImage part (now (words .entry)) r (now (pins .entry)) (now (registers .entry)) (now (rest .entry))
         (now (pins .exit)) (now (registers .exit)) (now (rest .exit)) ⌝ }
@@ -158,6 +160,7 @@ fn unpack(
         words[CHOICE],
         words[STATUS],
         words[LINE],
+        words[MODE],
     ];
     DONE
 }
@@ -208,7 +211,7 @@ pub extern "C" fn ghixramel_pack(
     words: &mut [u64; 28],
     pins: &[u64; 4],
     registers: &[u8; 128],
-    rest: &[u64; 5],
+    rest: &[u64; 6],
 ) -> u32
     ensures { λ r. ⌜ FromImage 0 (imageIn (now (pins .entry)) (now (registers .entry)) (now (rest .entry))) r (now (words .entry)) (now (words .exit)) ⌝ }
 {
@@ -220,7 +223,7 @@ pub extern "C" fn ghixramel_unpack(
     words: &[u64; 28],
     pins: &mut [u64; 4],
     registers: &mut [u8; 128],
-    rest: &mut [u64; 5],
+    rest: &mut [u64; 6],
 ) -> u32
     ensures { λ r. ⌜ ToImage 0 (now (words .entry)) r (now (pins .entry)) (now (registers .entry)) (now (rest .entry))
         (now (pins .exit)) (now (registers .exit)) (now (rest .exit)) ⌝ }
@@ -306,7 +309,7 @@ pub extern "C" fn ghixramel34_pack(
     words: &mut [u64; 28],
     pins: &[u64; 4],
     registers: &[u8; 128],
-    rest: &[u64; 5],
+    rest: &[u64; 6],
 ) -> u32
     ensures { λ r. ⌜ FromImage 1 (imageIn (now (pins .entry)) (now (registers .entry)) (now (rest .entry))) r (now (words .entry)) (now (words .exit)) ⌝ }
 {
@@ -318,7 +321,7 @@ pub extern "C" fn ghixramel34_unpack(
     words: &[u64; 28],
     pins: &mut [u64; 4],
     registers: &mut [u8; 128],
-    rest: &mut [u64; 5],
+    rest: &mut [u64; 6],
 ) -> u32
     ensures { λ r. ⌜ ToImage 1 (now (words .entry)) r (now (pins .entry)) (now (registers .entry)) (now (rest .entry))
         (now (pins .exit)) (now (registers .exit)) (now (rest .exit)) ⌝ }

@@ -107,9 +107,9 @@ from-none c hc image w w' p = record { packed = λ h. clash (imageFits (partOf c
 module _ (c : ℕ) (w pins file rest : List ℕ) where
   pub to-image : (file' : List ℕ) → Packed c w → file' ≡ fileOf (partOf c) w
       → ToImage c w 0 pins file rest (getD w 0 0 ∷ getD w 1 0 ∷ getD w 2 0 ∷ getD w 3 0 ∷ []) file'
-      (getD w 21 0 ∷ getD w 22 0 ∷ getD w 23 0 ∷ getD w 19 0 ∷ getD w 20 0 ∷ [])
+      (getD w 21 0 ∷ getD w 22 0 ∷ getD w 23 0 ∷ getD w 19 0 ∷ getD w 20 0 ∷ getD w 24 0 ∷ [])
   to-image file' k e = record {
-    unpacked = λ k. (refl, ap (λ (f : List ℕ). state (core f (setsIn w)) (interruptIn w) (getD w 21 0) (getD w 22 0) (getD w 23 0)) e);
+    unpacked = λ k. (refl, ap (λ (f : List ℕ). state (core f (setsIn w)) (interruptIn w) (getD w 21 0) (getD w 24 0) (getD w 22 0) (getD w 23 0)) e);
     broken = λ z. absurd (z k);
   }
 

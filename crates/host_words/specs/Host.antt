@@ -58,11 +58,11 @@ pub record Shown (c : ℕ) (w : List ℕ) (n number : ℕ) (lent lent' : List �
       → (number ≡ cond (reserved (partOf c) n) 2 0) × (lent' ≡ cond (reserved (partOf c) n) lent (shownIn (partOf c) (stateIn (partOf c) w) n ∷ []))
   pub broken : (Packed c w → ⊥) → (number ≡ 3) × (lent' ≡ lent)
 
--- ---- images: the pin sets in the order level, reference, held, edge; the registers; pointer, bus state, address choice, status, line
+-- ---- images: the pin sets in the order level, reference, held, edge; the registers; pointer, bus state, address choice, status, line, mode
 abbrev pub imageIn : (pins file rest : List ℕ) → State
 imageIn pins file rest =
     state (core file (record { level = getD pins 0 0; reference = getD pins 1 0; held = getD pins 2 0; edge = getD pins 3 0 }))
-    (interrupt (getD rest 3 0) (getD rest 4 0)) (getD rest 0 0) (getD rest 1 0) (getD rest 2 0)
+    (interrupt (getD rest 3 0) (getD rest 4 0)) (getD rest 0 0) (getD rest 5 0) (getD rest 1 0) (getD rest 2 0)
 
 -- an image to words: 3 if it may not stand, and then the words stay
 pub record FromImage (c : ℕ) (image : State) (number : ℕ) (w w' : List ℕ) : Type 0 where

@@ -138,6 +138,33 @@ reserved p n = not (ltb n 128) || eqb (code (kindAt p n)) (code Reserved)
 unfoldable pub next : Part → ℕ → ℕ
 next p n = cond (eqb n (groupIn (p .groups) n .last)) (groupIn (p .groups) n .first) (n + 1)
 
+-- the first number from n on, of m of them, that is not reserved; 00h where there is none
+abbrev pub firstKnown : Part → (n m : ℕ) → ℕ
+firstKnown p n zero = 0x00
+firstKnown p n (suc m) = cond (reserved p n) (firstKnown p (n + 1) m) n
+
+-- over the whole map: the next number that is not reserved, from the last of a group and from a group of one too; the highest goes to 00h
+unfoldable pub onward : Part → ℕ → ℕ
+onward p n = firstKnown p (n + 1) (127 - n)
+
+-- the step from number to number, by the mode: 0 in its group, 1 over the whole map
+unfoldable pub nextIn : Part → (mode n : ℕ) → ℕ
+nextIn p mode n = cond (eqb mode 1) (onward p n) (next p n)
+
+-- how many of the m numbers from n on are not reserved
+abbrev pub knownFrom : Part → (n m : ℕ) → ℕ
+knownFrom p n zero = 0
+knownFrom p n (suc m) = cond (reserved p n) 0 1 + knownFrom p (n + 1) m
+
+-- how many registers the part has: 52, and 82 of the sister
+abbrev pub registerCount : Part → ℕ
+registerCount p = knownFrom p 0 128
+
+-- the number after so many steps
+unfoldable pub walked : Part → (mode n count : ℕ) → ℕ
+walked p mode n zero = n
+walked p mode n (suc count) = walked p mode (nextIn p mode n) count
+
 -- the group step as a table has it: the next number, 0 for a reserved one
 abbrev pub successor : Part → ℕ → ℕ
 successor p n = cond (reserved p n) 0 (next p n)

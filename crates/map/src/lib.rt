@@ -1,7 +1,8 @@
 // The register map, part by part: see specs/Map.antt for the groups and proofs/ for what is worked out of them.
 ghost use mathlib.Core.Path.{_≡_};
 ghost use Prim.Native.Nat.{_-_, _^_};
-ghost use Rattle.map.specs.Map.{partOf, Stepping};
+ghost use mathlib.Core.Bool.{false};
+ghost use Rattle.map.specs.Map.{part24, part34, partOf, reserved, onward, Stepping};
 
 // The 24-pin part: every pin, the bits that exist in the output port kind, in debounce enable and in debounce count.
 pub const PINS24: u64 = 0xff_ffff;
@@ -330,4 +331,55 @@ pub fn next_of(part: u64) -> [u8; 128]
         return NEXT24;
     }
     NEXT34
+}
+
+// The step over the whole map, from a register of the 24-pin part: to the next number, past the reserved ones after these, and from the highest to 00h.
+fn onward24(n: u8) -> u8
+    requires { ⌜ reserved part24 n ≡ false ⌝ }
+    ensures { λ r. ⌜ r ≡ onward part24 n ⌝ }
+{
+    match n {
+        0x02 => 0x04,
+        0x06 => 0x08,
+        0x0a => 0x0c,
+        0x0e => 0x40,
+        0x45 => 0x48,
+        0x4a => 0x4c,
+        0x4e => 0x50,
+        0x52 => 0x54,
+        0x56 => 0x58,
+        0x5a => 0x5c,
+        0x5c => 0x60,
+        0x65 => 0x68,
+        0x6a => 0x6c,
+        0x6e => 0x70,
+        0x72 => 0x74,
+        0x76 => 0x00,
+        _ => n + 1,
+    }
+}
+
+// And of its sister.
+fn onward34(n: u8) -> u8
+    requires { ⌜ reserved part34 n ≡ false ⌝ }
+    ensures { λ r. ⌜ r ≡ onward part34 n ⌝ }
+{
+    match n {
+        0x13 => 0x30,
+        0x38 => 0x3a,
+        0x5c => 0x5e,
+        0x6f => 0x00,
+        _ => n + 1,
+    }
+}
+
+// Of the part of that number.
+pub fn onward_of(part: u64, n: u8) -> u8
+    requires { ⌜ reserved (partOf part) n ≡ false ⌝ }
+    ensures { λ r. ⌜ r ≡ onward (partOf part) n ⌝ }
+{
+    if part == 0 {
+        return onward24(n);
+    }
+    onward34(n)
 }

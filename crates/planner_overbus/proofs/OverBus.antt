@@ -1,6 +1,6 @@
 -- The writes over the bus: sent as transactions to the device's address, from any bus state, a list does what its writes do, with its data bytes and at no other
 -- moment; so a quiet list is quiet over the bus. Assumes nothing.
-use mathlib.Core.Path.{_≡_, refl, sym, ap, ap₂, _∙_}
+use mathlib.Core.Path.{_≡_, refl, sym, ap, ap₂, subst, _∙_}
 use mathlib.Core.Logic.{inl, inr, ⊎-elim}
 use mathlib.Core.Bool.{Bool, true, false, not}
 use mathlib.Core.List.{List, [], _∷_, _++_}
@@ -9,18 +9,19 @@ use native.Mathlib.Omega.{arith}
 use lib.Dec.{eqb}
 use lib.ListN.{take}
 use borrow.Author.Tests.{not-true, eqb-true, eqb-false}
-use Rattle.map.specs.Map.{Part, reserved}
+use Rattle.map.specs.Map.{Part, reserved, walked}
 use Rattle.registers.specs.Registers.{Core, written}
-use Rattle.device_rules.specs.Device.{State, goes}
-use Rattle.device_rules.specs.Device.Bus.{Opened, Chosen}
+use Rattle.device_rules.specs.Device.{State, goes, number as numberOf}
+use Rattle.device_rules.specs.Device.Bus.{Idle, Opened, Chosen}
 use Rattle.device_rules.specs.declared.Answer.{Answer}
 use Rattle.device_rules.specs.declared.Answer.the-variants.{Nothing, Ack}
 use Rattle.device_rules.specs.Refusals.{stepped}
+use Rattle.device_rules.proofs.Images.{known-small}
 use Rattle.device_demands.specs.Run.{Asked, after, answers}
-use Rattle.device_demands.specs.Transactions.{START, sent, toWrite, writeOver, writtenFrom}
+use Rattle.device_demands.specs.Transactions.{rightly, START, sent, toWrite, numberIn, modeIn, writeOver, writtenFrom}
 use Rattle.device_demands.proofs.Lawful.{Lawful}
 use Rattle.device_demands.proofs.Keeps.{WellFormed, run-keeps}
-use Rattle.device_demands.proofs.Transacting.{on, ended, start, to-write, filling, command, fills, data-byte, bus-writes, bus-writes-answers}
+use Rattle.device_demands.proofs.Transacting.{on, ended, start, to-write, filling, command, fills, data-byte, bus-writes, bus-writes-answers, clear-number, clear-mode}
 use Rattle.planner_quiet.specs.Settings.{Settings, Write}
 use Rattle.planner_quiet.specs.Quiet.{Still, Quiet, Formed, writes, afterFirst, isPlanned, Listed, settingsOf, driveAt, inputAt, statusAt}
 use Rattle.planner_overbus.specs.OverBus.{overBus, afterEvents, allTaken, QuietOverBus}
@@ -52,18 +53,38 @@ module _ (p : Part) (law : Lawful p) (ok : Plannable p) where
     abbrev pub next : State
     next = after p s (writeOver (s .choice) (w .register) (w .value))
 
-    known : reserved p (w .register) ≡ false
-    known = planned-known (w .register) h
+    abbrev n : ℕ
+    n = w .register
+
+    known : reserved p n ≡ false
+    known = planned-known n h
+
+    -- its command has bit 7 clear
+    number : numberIn n ≡ n
+    number = clear-number p n known
+
+    commanded : reserved p (numberIn n) ≡ false
+    commanded = ap (reserved p) number ∙ known
+
+    small : n < 256
+    small = let l = known-small p n known in omega arith
+
+    over-it : after p s (writeOver (s .choice) n (w .value))
+        ≡ rightly p (writtenFrom p (modeIn n) (s .regs) (numberIn n) (w .value ∷ [])) (walked p (modeIn n) (numberIn n) 1) (modeIn n) (numberOf Idle) (s .choice)
+    over-it = bus-writes p law s g n small commanded (w .value ∷ []) (v, tt)
 
     pub kept : WellFormed p next
     kept = run-keeps p law s g (writeOver (s .choice) (w .register) (w .value))
 
     pub done : next .regs ≡ written p (s .regs) (w .register) (w .value)
     unfolding writtenFrom
-    done = ap (λ (x : State). x .regs) (bus-writes p law s g (w .register) known (w .value ∷ []) (v, tt))
+    done = ap (λ (x : State). x .regs) over-it ∙ ap (λ (k : ℕ). written p (s .regs) k (w .value)) number
 
     pub there : next .choice ≡ s .choice
-    there = ap (λ (x : State). x .choice) (bus-writes p law s g (w .register) known (w .value ∷ []) (v, tt))
+    there = ap (λ (x : State). x .choice) over-it
+
+    pub mode-0 : next .mode ≡ 0
+    mode-0 = ap (λ (x : State). x .mode) over-it ∙ clear-mode p n known
 
     -- what follows it goes on from there
     pub then-on : (rest : ℕ → List Asked) → after p s (writeOver (s .choice) (w .register) (w .value) ++ rest (s .choice)) ≡ after p next (rest (next .choice))
@@ -73,7 +94,7 @@ module _ (p : Part) (law : Lawful p) (ok : Plannable p) where
         → answers p s (writeOver (s .choice) (w .register) (w .value) ++ rest (s .choice)) ≡ Nothing ∷ Ack ∷ Ack ∷ Ack ∷ Nothing ∷ answers p next (rest (next .choice))
     answers-on rest =
         answers-in-turn s (writeOver (s .choice) (w .register) (w .value)) (rest (s .choice))
-        ∙ ap₂ (λ (a b : List Answer). a ++ b) (bus-writes-answers p law s g (w .register) known (w .value ∷ []) (v, tt)) (ap (λ (c : ℕ). answers p next (rest c)) (sym there))
+        ∙ ap₂ (λ (a b : List Answer). a ++ b) (bus-writes-answers p law s g n small commanded (w .value ∷ []) (v, tt)) (ap (λ (c : ℕ). answers p next (rest c)) (sym there))
 
     -- in the middle of it: nothing before the data byte, all of it then
     abbrev first : ℕ → Core
@@ -91,13 +112,14 @@ module _ (p : Part) (law : Lawful p) (ok : Plannable p) where
     pub at-3 : first 3 ≡ s .regs
     at-3 =
         ap (λ (x : State). x .regs)
-        (on p s START _ _ (start p law s g) ∙ on p (goes s Opened) (toWrite (s .choice)) _ _ (to-write p law s g) ∙ on p (goes s Chosen) (sent (w .register)) [] _ (command p law s g (w .register) known) ∙ ended p _)
+        (on p s START _ _ (start p law s g) ∙ on p (goes s Opened) (toWrite (s .choice)) _ _ (to-write p law s g) ∙ on p (goes s Chosen) (sent (w .register)) [] _ (command p law s g n small commanded) ∙ ended p _)
 
     pub at-4 : first 4 ≡ written p (s .regs) (w .register) (w .value)
     at-4 =
         ap (λ (x : State). x .regs)
-        (on p s START _ _ (start p law s g) ∙ on p (goes s Opened) (toWrite (s .choice)) _ _ (to-write p law s g) ∙ on p (goes s Chosen) (sent (w .register)) _ _ (command p law s g (w .register) known)
-        ∙ on p (filling p law s g (w .register)) (sent (w .value)) [] _ (data-byte p law (filling p law s g (w .register)) (fills p law s g (w .register) known) refl (w .value) v) ∙ ended p _)
+        (on p s START _ _ (start p law s g) ∙ on p (goes s Opened) (toWrite (s .choice)) _ _ (to-write p law s g) ∙ on p (goes s Chosen) (sent (w .register)) _ _ (command p law s g n small commanded)
+        ∙ on p (filling p law s g (w .register)) (sent (w .value)) [] _ (data-byte p law (filling p law s g (w .register)) (fills p law s g n small commanded) refl (w .value) v) ∙ ended p _)
+        ∙ ap (λ (k : ℕ). written p (s .regs) k (w .value)) number
 
   -- ---- the list: registers and pins after the transactions are those after the writes
   over-bus : (s : State) → WellFormed p s → (ws : List Write) → Listed p ws → after p s (overBus (s .choice) ws) .regs ≡ writes p (s .regs) ws
@@ -112,6 +134,13 @@ module _ (p : Part) (law : Lawful p) (ok : Plannable p) where
   over-bus-answers s g (w ∷ ws) l =
       answers-on s g w (l .0) (l .1) (λ c. overBus c ws)
       ∙ ap (λ (a : List Answer). Nothing ∷ Ack ∷ Ack ∷ Ack ∷ Nothing ∷ a) (over-bus-answers (next s g w (l .0) (l .1)) (kept s g w (l .0) (l .1)) ws (l .2))
+
+  -- a list that is not empty leaves mode 0: no command of it has bit 7
+  mode-left : (s : State) → WellFormed p s → (w : Write) (ws : List Write) → Listed p (w ∷ ws) → after p s (overBus (s .choice) (w ∷ ws)) .mode ≡ 0
+  mode-left s g w [] l = ap (λ (x : State). x .mode) (then-on s g w (l .0) (l .1) (λ c. []) ∙ ended p _) ∙ mode-0 s g w (l .0) (l .1)
+  mode-left s g w (v ∷ ws) l =
+      ap (λ (x : State). x .mode) (then-on s g w (l .0) (l .1) (λ c. overBus c (v ∷ ws)))
+      ∙ mode-left (next s g w (l .0) (l .1)) (kept s g w (l .0) (l .1)) v ws (l .2)
 
   five : (m : ℕ) → (suc (suc (suc (suc (suc m)))) + 1) / 5 ≡ suc ((m + 1) / 5)
   five m = omega arith
@@ -172,6 +201,7 @@ module _ (p : Part) (law : Lawful p) (ok : Plannable p) where
       let q = quiet (s .regs) (formed s g) e in
       record {
         taken = over-bus-answers s g ws l;
+        mode-0 = λ w rest z. ap (λ (ws : List Write). after p s (overBus (s .choice) ws) .mode) z ∙ mode-left s g w rest (subst (Listed p) z l);
         reached = ap (settingsOf p) (over-bus s g ws l) ∙ q .reached;
         still = λ i h. still-slowly (afterEvents p s ws) (afterFirst p (s .regs) ws) goal i (over-bus-throughout s g ws l) (q .still i h);
       }

@@ -27,8 +27,10 @@ abbrev pub allTaken : List Write → List Answer
 allTaken [] = []
 allTaken (w ∷ ws) = Nothing ∷ Ack ∷ Ack ∷ Ack ∷ Nothing ∷ allTaken ws
 
--- sent to the device s the list is acknowledged, reaches the goal, and every pin is still from event to event
+-- sent to the device s the list is acknowledged, reaches the goal, and every pin is still from event to event; its commands have bit 7 clear, so that the mode is 0
+-- after it, unless it is empty
 pub record QuietOverBus (p : Part) (s : State) (goal : Settings) (ws : List Write) : Type 0 where
   pub taken : answers p s (overBus (s .choice) ws) ≡ allTaken ws
   pub reached : settingsOf p (after p s (overBus (s .choice) ws) .regs) ≡ goal
   pub still : (i : ℕ) → i < p .width → Still p (afterEvents p s ws) goal i
+  pub mode-0 : (w : Write) (rest : List Write) → ws ≡ w ∷ rest → after p s (overBus (s .choice) ws) .mode ≡ 0

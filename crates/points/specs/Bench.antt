@@ -1,7 +1,7 @@
 -- The bench points of both devices and the planner, one table: what is done, what one looks at, and what must be seen.
 use mathlib.Core.Bool.{Bool, true, false, _&&_}
 use mathlib.Core.List.{List, [], _∷_, _++_}
-use Prim.Native.Nat.{ℕ, _-_, _*_, _%_, _^_, min}
+use Prim.Native.Nat.{ℕ, _+_, _-_, _*_, _%_, _^_, min}
 use lib.Dec.{eqb}
 use lib.ListN.{getD, set, length}
 use Rattle.bits.specs.Bits.{val}
@@ -16,7 +16,7 @@ use Rattle.device_demands.specs.Run.{Asked}
 use Rattle.planner_quiet.specs.Settings.{Settings}
 use Rattle.planner_promise.specs.Answer.{Answer, answerOf}
 use Rattle.planner_promise.specs.Answer.Answer.{refuse, give}
-use Rattle.device_demands.specs.Transactions.{ask, START, STOP, sent, toWrite, writeAllOver, writeOver, readOver, readOn}
+use Rattle.device_demands.specs.Transactions.{ask, START, STOP, sent, toWrite, writeAllOver, writeOver, readOver, readOn, readAllOver}
 
 pub data Case : Type 0 where
   -- events on a device of the part from power-on at address choice 0 with all levels 0; one looks at the last outcome
@@ -64,6 +64,9 @@ refusedIs p o = refusalNumber (o .answer)
 abbrev pub pointerIs : Part → Outcome → ℕ
 pointerIs p o = o .after .pointer
 
+abbrev pub modeIs : Part → Outcome → ℕ
+modeIs p o = o .after .mode
+
 -- 1 if INT is asserted
 abbrev pub intIs : Part → Outcome → ℕ
 intIs p o = val (intAsserted p (o .after .regs))
@@ -86,11 +89,11 @@ registerIs n p o = getD (o .after .regs .file) n 0
 
 -- an image whose register n holds v, and one whose levels are l
 abbrev pub holding : (n v : ℕ) → State → State
-holding n v s = state (core (set (s .regs .file) n v) (s .regs .sets)) (s .interrupt) (s .pointer) (s .bus) (s .choice)
+holding n v s = state (core (set (s .regs .file) n v) (s .regs .sets)) (s .interrupt) (s .pointer) (s .mode) (s .bus) (s .choice)
 
 abbrev pub levelled : (l : ℕ) → State → State
 levelled l s =
-    state (core (s .regs .file) (record { level = l; reference = l; held = 0; edge = 0 })) (s .interrupt) (s .pointer) (s .bus) (s .choice)
+    state (core (s .regs .file) (record { level = l; reference = l; held = 0; edge = 0 })) (s .interrupt) (s .pointer) (s .mode) (s .bus) (s .choice)
 
 -- the number of the planner's refusal, 0 where a plan is given; and the number of its writes
 abbrev pub refusalIs : Answer → ℕ
@@ -122,6 +125,10 @@ alike p output configuration portKinds pinKind = eachPort p output ++ (eachPort 
 -- the command n and one data byte: the pointer has stepped once
 abbrev pub steppedFrom : ℕ → List Asked
 steppedFrom n = START ∷ toWrite 0 ∷ sent n ∷ sent 0x00 ∷ []
+
+-- the same with bit 7 of the command set: over the whole map
+abbrev pub walkedFrom : ℕ → List Asked
+walkedFrom n = steppedFrom (0x80 + n)
 
 -- 00 written to the five registers of a group of the sister
 abbrev pub zeros : (n : ℕ) → List Asked
@@ -174,6 +181,30 @@ cases =
     ∷ case part24 (write 0x04 0x00 ++ (START ∷ sent 0x00 ∷ sent 0x06 ∷ STOP ∷ [])) (registerIs 0x04) 0xff
     -- command 03h: no acknowledge
     ∷ case part24 (START ∷ toWrite 0 ∷ sent 0x03 ∷ []) answerIs 2
+    -- over the whole map: after 02 comes 04, after 0E 40, after 5C 60, after 76 00; in its group the pointer stays where bit 7 is clear
+    ∷ case part24 (walkedFrom 0x02) pointerIs 0x04
+    ∷ case part24 (walkedFrom 0x0e) pointerIs 0x40
+    ∷ case part24 (walkedFrom 0x5c) pointerIs 0x60
+    ∷ case part24 (walkedFrom 0x76) pointerIs 0x00
+    -- a walk of writes passes a read-only register and settles by a clear register: of the bytes after 82h the second goes to 04, of those after E5h the second to 68
+    ∷ case part24 (writeAllOver 0 0x82 (0xff ∷ 0x00 ∷ [])) (registerIs 0x04) 0x00
+    ∷ case part24 (write 0x54 0xfe ++ (levels 1 ∷ writeAllOver 0 0xe5 (0x00 ∷ 0x01 ∷ []))) keptLineIs 1
+    -- a walk of reads settles each input port that it fetches
+    ∷ case part24 (write 0x54 0xfe ++ (levels 1 ∷ readAllOver 0 0xf6 1)) keptLineIs 1
+    -- command 83h: no acknowledge, pointer and mode kept
+    ∷ case part24 (START ∷ toWrite 0 ∷ sent 0x83 ∷ []) answerIs 2
+    ∷ case part24 (walkedFrom 0x02 ++ (START ∷ toWrite 0 ∷ sent 0x03 ∷ [])) modeIs 1
+    ∷ case part24 (walkedFrom 0x02 ++ (START ∷ toWrite 0 ∷ sent 0x03 ∷ [])) pointerIs 0x04
+    ∷ case part24 (steppedFrom 0x02 ++ (START ∷ toWrite 0 ∷ sent 0x83 ∷ [])) modeIs 0
+    -- the mode is kept over STOP and START, cleared by a command without bit 7 and by each reset
+    ∷ case part24 (walkedFrom 0x02 ++ (STOP ∷ START ∷ [])) modeIs 1
+    ∷ case part24 (walkedFrom 0x02 ++ steppedFrom 0x02) modeIs 0
+    ∷ case part24 (walkedFrom 0x02 ++ (ask 5 0 ∷ [])) modeIs 0
+    ∷ case part24 (walkedFrom 0x02 ++ (START ∷ sent 0x00 ∷ sent 0x06 ∷ STOP ∷ [])) modeIs 0
+    -- the sister over the whole map: after 13 comes 30, after 5C 5E, after 6F 00
+    ∷ case part34 (walkedFrom 0x13) pointerIs 0x30
+    ∷ case part34 (walkedFrom 0x5c) pointerIs 0x5e
+    ∷ case part34 (walkedFrom 0x6f) pointerIs 0x00
     -- the sister: the pointer after 04 is 00; after 38, 30; after 5C, 54; after 62, 5E; after 6F, 6D, debounce being one group; after 53, 53
     ∷ case part34 (steppedFrom 0x04) pointerIs 0x00
     ∷ case part34 (steppedFrom 0x38) pointerIs 0x30

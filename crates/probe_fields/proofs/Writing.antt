@@ -55,9 +55,13 @@ pub bus-text : (p b c : ℕ) → field 2 p ++ (field 2 b ++ field 2 c) ≡ field
 unfolding fieldsText
 bus-text p b c = rw (append-nil (hexText 2 c))
 
-pub interrupt-text : (s l : ℕ) → field 16 s ++ field 2 l ≡ fieldsText (drop 8 widths) (s ∷ l ∷ [])
+pub interrupt-text : (s l : ℕ) → field 16 s ++ field 2 l ≡ fieldsText (take 2 (drop 8 widths)) (s ∷ l ∷ [])
 unfolding fieldsText
 interrupt-text s l = rw (append-nil (hexText 2 l))
+
+pub mode-text : (m : ℕ) → field 2 m ≡ fieldsText (drop 10 widths) (m ∷ [])
+unfolding fieldsText
+mode-text m = rw (append-nil (hexText 2 m))
 
 -- fields after fields
 pub fields-both : (ws ns vs ms : List ℕ) → length ws ≡ length ns → fieldsText ws ns ++ fieldsText vs ms ≡ fieldsText (ws ++ vs) (ns ++ ms)

@@ -29,13 +29,15 @@ pub const STATUS_AT: usize = 334;
 
 pub const LINE_AT: usize = 351;
 
-pub const KIND_AT: usize = 354;
+pub const MODE_AT: usize = 354;
 
-pub const ARGUMENT_AT: usize = 363;
+pub const KIND_AT: usize = 357;
+
+pub const ARGUMENT_AT: usize = 366;
 
 // Whether a tab stands at this place of a line.
 fn is_tab(i: usize) -> bool
-    requires { ⌜ i < 379 ⌝ }
+    requires { ⌜ i < 382 ⌝ }
     ensures { λ r. ⌜ r ≡ getD lineForm i false ⌝ }
 {
     (i == 256)
@@ -48,7 +50,8 @@ fn is_tab(i: usize) -> bool
         | (i == 333)
         | (i == 350)
         | (i == 353)
-        | (i == 362)
+        | (i == 356)
+        | (i == 365)
 }
 
 // Whether the byte is a tab, or a digit.
@@ -65,11 +68,11 @@ fn byte_fits(tab: bool, b: u8) -> bool
 pub fn is_readable(line: &[u8]) -> bool
     ensures { λ r. ⌜ r ≡ readable (now (line .entry)) ⌝ }
 {
-    if line.len() != 379 {
+    if line.len() != 382 {
         return false;
     }
     let mut i = 0;
-    while i < 379 {
+    while i < 382 {
         if !byte_fits(is_tab(i), line[i]) {
             return false;
         }
@@ -109,15 +112,15 @@ pub fn word_at(line: &[u8], at: usize) -> u64
 
 // An event's kind.
 pub fn kind_in(line: &[u8]) -> u32
-    requires { ⌜ length (now line) ≡ 379 ⌝ }
-    ensures { λ r. ⌜ r ≡ numberIn (now (line .entry)) 10 ⌝ }
+    requires { ⌜ length (now line) ≡ 382 ⌝ }
+    ensures { λ r. ⌜ r ≡ numberIn (now (line .entry)) 11 ⌝ }
 {
     number_at(line, KIND_AT, 8, 0xffff_ffff) as u32
 }
 
 // The registers.
 pub fn file_in(line: &[u8]) -> [u8; 128]
-    requires { ⌜ length (now line) ≡ 379 ⌝ }
+    requires { ⌜ length (now line) ≡ 382 ⌝ }
     ensures { λ r. ⌜ r ≡ bytesAt (now (line .entry)) 0 128 ⌝ }
 {
     let mut file = [0u8; 128];
@@ -181,8 +184,16 @@ pub fn put_bus(out: &mut [u8], at: usize, pointer: u8, bus: u8, choice: u8) -> u
 // What is kept of the interrupt.
 pub fn put_interrupt(out: &mut [u8], at: usize, status: u64, line: u8) -> usize
     requires { ⌜ at + 20 ≤ length (now out) ⌝ }
-    ensures { λ r. ⌜ Wrote (now (out .entry)) at (fieldsText (drop 8 widths) (status ∷ line ∷ [])) r (now (out .exit)) × (r ≡ at + 20) ⌝ }
+    ensures { λ r. ⌜ Wrote (now (out .entry)) at (fieldsText (take 2 (drop 8 widths)) (status ∷ line ∷ [])) r (now (out .exit)) × (r ≡ at + 20) ⌝ }
 {
     let first = put_field(out, at, 16, status);
     put_field(out, first, 2, line as u64)
+}
+
+// The pointer's mode.
+pub fn put_mode(out: &mut [u8], at: usize, mode: u8) -> usize
+    requires { ⌜ at + 3 ≤ length (now out) ⌝ }
+    ensures { λ r. ⌜ Wrote (now (out .entry)) at (fieldsText (drop 10 widths) (mode ∷ [])) r (now (out .exit)) × (r ≡ at + 3) ⌝ }
+{
+    put_field(out, at, 2, mode as u64)
 }

@@ -18,13 +18,13 @@ setsIn line = record { level = numberIn line 1; reference = numberIn line 2; hel
 
 abbrev pub imageIn : (line : List ℕ) → State
 imageIn line =
-    state (core (bytesAt line 0 128) (setsIn line)) (interrupt (numberIn line 8) (numberIn line 9)) (numberIn line 5) (numberIn line 6) (numberIn line 7)
+    state (core (bytesAt line 0 128) (setsIn line)) (interrupt (numberIn line 8) (numberIn line 9)) (numberIn line 5) (numberIn line 10) (numberIn line 6) (numberIn line 7)
 
 abbrev pub kindIn : (line : List ℕ) → ℕ
-kindIn line = numberIn line 10
+kindIn line = numberIn line 11
 
 abbrev pub argumentIn : (line : List ℕ) → ℕ
-argumentIn line = numberIn line 11
+argumentIn line = numberIn line 12
 
 -- ---- the text of an image
 -- the same fields as a line's, less the event's; a tab before each
@@ -33,7 +33,7 @@ imageText s =
     0x09 ∷ bytesText (s .regs .file)
     ++ fieldsText (drop 1 widths)
     (s .regs .sets .level ∷ s .regs .sets .reference ∷ s .regs .sets .held ∷ s .regs .sets .edge
-    ∷ s .pointer ∷ s .bus ∷ s .choice ∷ s .interrupt .status ∷ s .interrupt .line ∷ [])
+    ∷ s .pointer ∷ s .bus ∷ s .choice ∷ s .interrupt .status ∷ s .interrupt .line ∷ s .mode ∷ [])
 
 -- ---- the answer
 -- as a trace tells the event; then the image after it, which no refusal has, and the newline

@@ -24,7 +24,7 @@ use pins::Sets;
 
 // The device of the part whose image the line says.
 pub fn device_in(part: u8, line: &[u8]) -> Device
-    requires { ⌜ length (now line) ≡ 379 ⌝ }
+    requires { ⌜ length (now line) ≡ 382 ⌝ }
     ensures { λ d. ⌜ (stateIn d ≡ imageIn (now (line .entry))) × (d .part ≡ part) ⌝ }
 {
     let sets = Sets {
@@ -42,12 +42,13 @@ pub fn device_in(part: u8, line: &[u8]) -> Device
         choice: probe_fields::byte_at(line, probe_fields::CHOICE_AT),
         status: probe_fields::word_at(line, probe_fields::STATUS_AT),
         line: probe_fields::byte_at(line, probe_fields::LINE_AT),
+        mode: probe_fields::byte_at(line, probe_fields::MODE_AT),
     }
 }
 
 // The step that the line asks.
 pub fn step_in(part: u8, line: &[u8]) -> Stepped
-    requires { ⌜ (part < 2) × (length (now line) ≡ 379) ⌝ }
+    requires { ⌜ (part < 2) × (length (now line) ≡ 382) ⌝ }
     ensures { λ s. ⌜ Answers part (now (line .entry)) s ⌝ }
 {
     let device = device_in(part, line);
@@ -58,8 +59,8 @@ pub fn step_in(part: u8, line: &[u8]) -> Stepped
 
 // The image's fields, a tab before each.
 fn put_image(out: &mut [u8], at: usize, d: Device) -> usize
-    requires { ⌜ at + 354 ≤ length (now out) ⌝ }
-    ensures { λ r. ⌜ Wrote (now (out .entry)) at (imageText (stateIn d)) r (now (out .exit)) × (r ≡ at + 354) ⌝ }
+    requires { ⌜ at + 357 ≤ length (now out) ⌝ }
+    ensures { λ r. ⌜ Wrote (now (out .entry)) at (imageText (stateIn d)) r (now (out .exit)) × (r ≡ at + 357) ⌝ }
 {
     let file = d.file;
     let sets = d.sets;
@@ -67,7 +68,8 @@ fn put_image(out: &mut [u8], at: usize, d: Device) -> usize
     let bytes = probe_fields::put_bytes(out, tab, &file);
     let pins = probe_fields::put_sets(out, bytes, sets.level, sets.reference, sets.held, sets.edge);
     let bus = probe_fields::put_bus(out, pins, d.pointer, d.bus, d.choice);
-    probe_fields::put_interrupt(out, bus, d.status, d.line)
+    let kept = probe_fields::put_interrupt(out, bus, d.status, d.line);
+    probe_fields::put_mode(out, kept, d.mode)
 }
 
 // The text with which a trace tells an answer. A refusal's shows nothing of the device, whose image may be a broken one.
@@ -76,23 +78,8 @@ fn put_answer(out: &mut [u8], at: usize, d: Device, answer: Answer) -> usize
     ensures { λ r. ⌜ Wrote (now (out .entry)) at (shownText (partOf (d .part)) (outcome answer (stateIn d))) r (now (out .exit)) × (r ≤ at + 25) ⌝ }
 {
     let part = d.part as u64;
-    let file = d.file;
-    let pointer = d.pointer as u64;
-    let bus = d.bus as u64;
-    let choice = d.choice as u64;
-    let line = d.line as u64;
     let mut words = [0u64; 28];
-    let _fits = words_images::pack(
-        &mut words,
-        part,
-        &file,
-        d.sets,
-        pointer,
-        bus,
-        choice,
-        d.status,
-        line,
-    );
+    let _fits = d.pack(&mut words);
     let int = words_views::int(&words);
     let low = words_views::low(&words, map::pins_of(part));
     let high = words_views::high(&words);
@@ -101,8 +88,8 @@ fn put_answer(out: &mut [u8], at: usize, d: Device, answer: Answer) -> usize
 
 // The answer, and behind it the image after the step; a refusal has no image.
 pub fn put_outcome(out: &mut [u8], at: usize, d: Device, answer: Answer) -> usize
-    requires { ⌜ (refusalNumber answer ≡ 0 → fitsIn d ≡ true) × (at + 380 ≤ length (now out)) ⌝ }
-    ensures { λ r. ⌜ Wrote (now (out .entry)) at (probeLine (partOf (d .part)) (outcome answer (stateIn d))) r (now (out .exit)) × (r ≤ at + 380) ⌝ }
+    requires { ⌜ (refusalNumber answer ≡ 0 → fitsIn d ≡ true) × (at + 383 ≤ length (now out)) ⌝ }
+    ensures { λ r. ⌜ Wrote (now (out .entry)) at (probeLine (partOf (d .part)) (outcome answer (stateIn d))) r (now (out .exit)) × (r ≤ at + 383) ⌝ }
 {
     let told = put_answer(out, at, d, answer);
     let Answer::Refused(_) = answer else {
@@ -114,8 +101,8 @@ pub fn put_outcome(out: &mut [u8], at: usize, d: Device, answer: Answer) -> usiz
 
 // One line, without its newline: its answer is written from at on.
 pub fn answer_line(part: u8, line: &[u8], out: &mut [u8], at: usize) -> usize
-    requires { ⌜ (part < 2) × (at + 380 ≤ length (now out)) ⌝ }
-    ensures { λ r. ⌜ Wrote (now (out .entry)) at (probeText (partOf part) (now (line .entry))) r (now (out .exit)) × (r ≤ at + 380) ⌝ }
+    requires { ⌜ (part < 2) × (at + 383 ≤ length (now out)) ⌝ }
+    ensures { λ r. ⌜ Wrote (now (out .entry)) at (probeText (partOf part) (now (line .entry))) r (now (out .exit)) × (r ≤ at + 383) ⌝ }
 {
     if !probe_fields::is_readable(line) {
         return text_answers::put_refused(out, at, UNREADABLE);
@@ -126,9 +113,9 @@ pub fn answer_line(part: u8, line: &[u8], out: &mut [u8], at: usize) -> usize
     put_outcome(out, at, after, answer)
 }
 
-// A line that has begun, of which 380 bytes are kept: no longer line is readable.
+// A line that has begun, of which 383 bytes are kept: no longer line is readable.
 pub struct Line {
-    pub held: [u8; 380],
+    pub held: [u8; 383],
     pub len: usize,
 }
 
@@ -137,15 +124,15 @@ pub fn begin() -> Line
     ensures { λ l. ⌜ Holds l [] ⌝ }
 {
     Line {
-        held: [0; 380],
+        held: [0; 383],
         len: 0,
     }
 }
 
 // The line with these bytes more.
 pub fn grow(line: Line, part: &[u8]) -> Line
-    requires { ⌜ line .len ≤ 380 ⌝ }
-    ensures { λ l. ⌜ (l .len ≤ 380) × ((text : List ℕ) → Holds line text → Holds l (text ++ now (part .entry))) ⌝ }
+    requires { ⌜ line .len ≤ 383 ⌝ }
+    ensures { λ l. ⌜ (l .len ≤ 383) × ((text : List ℕ) → Holds line text → Holds l (text ++ now (part .entry))) ⌝ }
 {
     let mut held = line.held;
     let len = text_pieces::keep(&mut held, line.len, part);
@@ -154,8 +141,8 @@ pub fn grow(line: Line, part: &[u8]) -> Line
 
 // The whole line's answer, written from at on.
 pub fn answer(part: u8, line: Line, out: &mut [u8], at: usize) -> usize
-    requires { ⌜ (part < 2) × (line .len ≤ 380) × (at + 380 ≤ length (now out)) ⌝ }
-    ensures { λ r. ⌜ ((text : List ℕ) → Holds line text → Wrote (now (out .entry)) at (probeText (partOf part) text) r (now (out .exit))) × (r ≤ at + 380) ⌝ }
+    requires { ⌜ (part < 2) × (line .len ≤ 383) × (at + 383 ≤ length (now out)) ⌝ }
+    ensures { λ r. ⌜ ((text : List ℕ) → Holds line text → Wrote (now (out .entry)) at (probeText (partOf part) text) r (now (out .exit))) × (r ≤ at + 383) ⌝ }
 {
     let held = line.held;
     let len = line.len;

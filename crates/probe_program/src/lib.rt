@@ -19,8 +19,8 @@ fn make_room(out: &[u8], end: usize) -> usize
 
 // Every line that ends in this piece is answered; the rest of the piece begins the next line.
 fn answer_piece(part: u8, line: Line, piece: &[u8], out: &mut [u8]) -> Line
-    requires { ⌜ (part < 2) × (line .len ≤ 380) × (length (now out) ≡ 65536) ⌝ }
-    ensures { λ l. ⌜ l .len ≤ 380 ⌝ }
+    requires { ⌜ (part < 2) × (line .len ≤ 383) × (length (now out) ≡ 65536) ⌝ }
+    ensures { λ l. ⌜ l .len ≤ 383 ⌝ }
 {
     let mut begun = line;
     let mut rest = piece;
@@ -45,7 +45,7 @@ fn answer_piece(part: u8, line: Line, piece: &[u8], out: &mut [u8]) -> Line
 
 // A last line without newline counts if it holds a byte.
 fn answer_last(part: u8, line: Line, out: &mut [u8])
-    requires { ⌜ (part < 2) × (line .len ≤ 380) × (length (now out) ≡ 65536) ⌝ }
+    requires { ⌜ (part < 2) × (line .len ≤ 383) × (length (now out) ≡ 65536) ⌝ }
 {
     if 0 < line.len {
         let end = probe_images::answer(part, line, out, 0);

@@ -50,6 +50,9 @@ pub const BUS: usize = 22;
 
 pub const CHOICE: usize = 23;
 
+// The pointer's mode: 0 it steps in its group, 1 over the whole map.
+pub const MODE: usize = 24;
+
 pub const PART: usize = 27;
 
 // That the words are 28 is no part of what a lent array says; a slice made of it says so. Costs nothing.

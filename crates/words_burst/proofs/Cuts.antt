@@ -2,7 +2,7 @@
 use mathlib.Core.Path.{_≡_, refl, sym, ap, ap₂, _∙_}
 use mathlib.Core.Bool.{Bool, true, false, cond, not, _||_}
 use mathlib.Core.List.{List, [], _∷_, _++_}
-use Prim.Native.Nat.{ℕ, zero, suc, _+_, _*_, _<_}
+use Prim.Native.Nat.{ℕ, zero, suc, _+_, _*_, _%_, _<_}
 use native.Mathlib.Omega.{arith}
 use lib.Dec.{eqb, leb}
 use lib.ListN.{length, getD, List·getD-append}
@@ -28,7 +28,7 @@ module _ (p : Part) (s : State) where
   unfolding byteIn
   byte-clear Idle b = refl
   byte-clear Opened b = either-arm Clear (eqb b (addressByte s)) refl (either-arm Clear (eqb b (addressByte s + 1)) refl (either-arm Clear (eqb b 0x00) refl refl))
-  byte-clear Chosen b = either-arm Clear (reserved p b) refl refl
+  byte-clear Chosen b = either-arm Clear (reserved p (b % 128)) refl refl
   byte-clear Filling b = refl
   byte-clear Sending b = refl
   byte-clear Call b = either-arm Clear (eqb b 0x06) refl refl

@@ -3,7 +3,7 @@ ghost use mathlib.Core.Path.{_≡_};
 ghost use mathlib.Core.Bool.{true, false};
 ghost use Prim.Native.Nat.{ℕ, _-_, _%_, _^_, _<_};
 ghost use lib.ListN.{getD};
-ghost use Rattle.map.specs.Map.{partOf};
+ghost use Rattle.map.specs.Map.{partOf, reserved, nextIn};
 ghost use Rattle.device_rules.specs.Device.{byteIn, step as stepOf};
 ghost use Rattle.device_rules.specs.Device.Bus.{Opened, Chosen, Filling, Call};
 ghost use Rattle.device_rules.specs.Device.Event.{Stop, ByteSent, ByteFetched};
@@ -18,6 +18,8 @@ use device_rules::START;
 use device_rules::STOP;
 use words::BUS;
 use words::CHOICE;
+use words::MODE;
+use words::PART;
 use words::POINTER;
 use words_state::ACK;
 use words_state::NAK;
@@ -67,14 +69,24 @@ fn byte_chosen(words: &mut [u64; 28], wanted: u32, value: u8) -> u32
     ensures { λ a. ⌜ ((c : ℕ) → Packed c (now (words .entry)) → wanted ≡ rowAt (partOf c) (value % 128)
         → Leaves c (now (words .exit)) (answerAt a) (byteIn (partOf c) Chosen (stateIn (partOf c) (now (words .entry))) value)) ⌝ }
 {
-    if 127 < value {
-        return words_state::goes(words, DEAF, NAK);
-    }
     if wanted == 0 {
         return words_state::goes(words, DEAF, NAK);
     }
-    words[POINTER] = value as u64;
+    words[POINTER] = (value % 128) as u64;
+    words[MODE] = (value / 128) as u64;
     words_state::goes(words, FILLING, ACK)
+}
+
+// Where the pointer steps to, from the register whose row is given: in its group, or over the whole map.
+fn next_number(words: &[u64; 28], row: u32) -> u64
+    requires { ⌜ Standing row (getD (now words) 21 0) (now words) ⌝ }
+    ensures { λ r. ⌜ ((c : ℕ) → Packed c (now (words .entry)) → row ≡ rowAt (partOf c) (getD (now (words .entry)) 21 0)
+        → (r ≡ nextIn (partOf c) (getD (now (words .entry)) 24 0) (getD (now (words .entry)) 21 0)) × (reserved (partOf c) r ≡ false)) ⌝ }
+{
+    if words[MODE] == 0 {
+        return words_rows::successor(row);
+    }
+    map::onward_of(words[PART], (words[POINTER] % 128) as u8) as u64
 }
 
 // A byte in Filling: the register at the pointer, whose row is given, is written, and the pointer steps.
@@ -83,8 +95,8 @@ fn byte_filling(words: &mut [u64; 28], row: u32, value: u8) -> u32
     ensures { λ a. ⌜ ((c : ℕ) → Packed c (now (words .entry)) → getD (now (words .entry)) 22 0 ≡ 3 → row ≡ rowAt (partOf c) (getD (now (words .entry)) 21 0)
         → Leaves c (now (words .exit)) (answerAt a) (byteIn (partOf c) Filling (stateIn (partOf c) (now (words .entry))) value)) ⌝ }
 {
+    let next = next_number(&*words, row);
     words_kept::write(words, row, value);
-    let next = words_rows::successor(row);
     words[POINTER] = next;
     ACK
 }
@@ -126,9 +138,10 @@ fn fetch(words: &mut [u64; 28], row: u32, acknowledged: bool) -> u32
         return words_state::read(0xff);
     }
     let shown = words_views::show(&*words, row);
+    let next = next_number(&*words, row);
     words_kept::settle(words, row);
     if acknowledged {
-        words[POINTER] = words_rows::successor(row);
+        words[POINTER] = next;
         return words_state::read(shown);
     }
     words[BUS] = DEAF;

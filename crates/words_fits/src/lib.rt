@@ -21,6 +21,7 @@ use words::CHOICE;
 use words::DEBOUNCE_COUNT;
 use words::DEBOUNCE_ENABLE;
 use words::LINE;
+use words::MODE;
 use words::PART;
 use words::POINTER;
 use words::PORT_KIND;
@@ -54,10 +55,10 @@ fn spare(words: &[u64; 28], pins: u64, kinds: u64, enables: u64, counts: u64) ->
 // What is set in the other words, and may not be.
 fn odd(words: &[u64; 28]) -> u64
     ensures { λ s. ⌜ s ≡ bitOr (bitOr (bitOr (bitOr (bitOr (getD (now (words .entry)) 21 0 / 2 ^ 7) (getD (now (words .entry)) 22 0 / 2 ^ 3))
-        (getD (now (words .entry)) 23 0 / 2 ^ 2)) (getD (now (words .entry)) 24 0)) (getD (now (words .entry)) 25 0)) (getD (now (words .entry)) 26 0) ⌝ }
+        (getD (now (words .entry)) 23 0 / 2 ^ 2)) (getD (now (words .entry)) 24 0 / 2 ^ 1)) (getD (now (words .entry)) 25 0)) (getD (now (words .entry)) 26 0) ⌝ }
 {
     let small = (words[POINTER] >> 7) | (words[BUS] >> 3) | (words[CHOICE] >> 2);
-    small | words[24] | words[25] | words[26]
+    small | (words[MODE] >> 1) | words[25] | words[26]
 }
 
 // In which bits the status set and the line are not what the rules work out.

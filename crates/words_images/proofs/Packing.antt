@@ -1,25 +1,25 @@
 -- Words made of an image are packed and hold its state; made of the image of packed words they are those words again. Assumes nothing.
 use mathlib.Core.Path.{_≡_, refl, sym, ap, ap₂, subst, _∙_}
-use mathlib.Core.Bool.{Bool, true, false, not, _&&_}
+use mathlib.Core.Bool.{Bool, true, false, _&&_}
 use mathlib.Core.List.{List}
-use Prim.Native.Nat.{ℕ, _%_, _^_, _<_}
+use Prim.Native.Nat.{ℕ, _%_, _<_}
 use native.Mathlib.Nat.{mod-eq-of-lt}
 use native.Mathlib.Omega.{arith}
-use borrow.Author.Tests.{lt-ltb, ltb-true, not-true}
+use borrow.Author.Tests.{lt-ltb, ltb-true}
 use lib.Dec.{ltb}
 use lib.ListN.{getD, set}
 use lib.Seq.{getD-set-same, getD-set-other}
-use Rattle.bits.proofs.Decide.{clash, and-left, and-right}
+use Rattle.bits.proofs.Decide.{clash}
 use Rattle.pins.specs.AllPins.{Within}
 use Rattle.pins.specs.declared.Sets.{Sets}
-use Rattle.map.specs.Map.{Part, reserved, fileFits, partOf}
+use Rattle.map.specs.Map.{reserved, fileFits, partOf}
 use Rattle.registers.specs.Registers.{Core, core}
 use Rattle.device_rules.specs.Device.{State, state, out}
 use Rattle.device_rules.specs.Held.{stateOf}
 use Rattle.device_rules.specs.declared.Answer.{Answer}
 use Rattle.device_rules.proofs.Stepping.{same-state}
-use Rattle.device_rules.specs.Refusals.{setsFit, interruptFits, imageFits, stepped}
-use Rattle.device_rules.proofs.Images.{right-of}
+use Rattle.device_rules.specs.Refusals.{imageFits, stepped}
+use Rattle.device_rules.proofs.Images.{sound-of}
 use Rattle.registers.specs.Interrupt.{interrupt, workedOut}
 use Rattle.registers.proofs.Kept.{same-interrupt, line-small}
 use Rattle.words.specs.Words.{fileOf, setsIn, withSets, coreIn, interruptIn, Fit, Holds}
@@ -30,51 +30,7 @@ use Rattle.words_state.proofs.Left.{unused-case, core-past, fit-past}
 use Rattle.words_state.proofs.Judging.{same-packed, image-fits, bounded-of}
 use Rattle.words_images.specs.Images.{Packs, restIn}
 
--- what an image that fits is known to be
-pub record Fitting (p : Part) (s : State) : Type 0 where
-  pub pointer-known : reserved p (s .pointer) ≡ false
-  pub bus-small : s .bus < 8
-  pub choice-small : s .choice < 4
-  pub within : Within (p .width) (s .regs .sets)
-  pub file-fits : fileFits p (s .regs .file) ≡ true
-  pub right : s .interrupt ≡ workedOut p (s .regs)
-
-pub fitting-of : (p : Part) (s : State) → imageFits p s ≡ true → Fitting p s
-unfolding imageFits setsFit
-fitting-of p s e = go (not (reserved p (s .pointer))) (ltb (s .bus) 8) (ltb (s .choice) 4) (ltb (x .level) m) (ltb (x .reference) m) (ltb (x .held) m) (ltb (x .edge) m)
-    (fileFits p (s .regs .file)) (interruptFits p s) refl refl refl refl refl refl refl refl refl e
-  where
-    x : Sets
-    x = s .regs .sets
-
-    m : ℕ
-    m = 2 ^ p .width
-
-    go : (k b c l r h d f i : Bool) → not (reserved p (s .pointer)) ≡ k → ltb (s .bus) 8 ≡ b → ltb (s .choice) 4 ≡ c → ltb (x .level) m ≡ l → ltb (x .reference) m ≡ r
-        → ltb (x .held) m ≡ h → ltb (x .edge) m ≡ d → fileFits p (s .regs .file) ≡ f → interruptFits p s ≡ i → (k && (b && (c && ((l && (r && (h && d))) && (f && i))))) ≡ true → Fitting p s
-    go k b c l r h d f i ek eb ec el er eh ed ef ei e =
-        let a1 = and-right k (b && (c && ((l && (r && (h && d))) && (f && i)))) e in
-        let a2 = and-right b (c && ((l && (r && (h && d))) && (f && i))) a1 in
-        let a3 = and-right c ((l && (r && (h && d))) && (f && i)) a2 in
-        let a4 = and-right (l && (r && (h && d))) (f && i) a3 in
-        let s1 = and-left (l && (r && (h && d))) (f && i) a3 in
-        let s2 = and-right l (r && (h && d)) s1 in
-        let s3 = and-right r (h && d) s2 in
-        record {
-          pointer-known = not-true _ (ek ∙ and-left k (b && (c && ((l && (r && (h && d))) && (f && i)))) e);
-          bus-small = ltb-true (s .bus) 8 (eb ∙ and-left b (c && ((l && (r && (h && d))) && (f && i))) a1);
-          choice-small = ltb-true (s .choice) 4 (ec ∙ and-left c ((l && (r && (h && d))) && (f && i)) a2);
-          within = record {
-            level-small = ltb-true (x .level) m (el ∙ and-left l (r && (h && d)) s1);
-            reference-small = ltb-true (x .reference) m (er ∙ and-left r (h && d) s2);
-            held-small = ltb-true (x .held) m (eh ∙ and-left h d s3);
-            edge-small = ltb-true (x .edge) m (ed ∙ and-right h d s3);
-          };
-          file-fits = ef ∙ and-left f i a4;
-          right = right-of p s (ei ∙ and-right f i a4);
-        }
-
-module _ (c : ℕ) (hc : c < 2) (u : List ℕ) (fit : Fit (partOf c) u) (zeros : (s : ℕ) → 18 < s → getD u s 0 ≡ 0) (x : Sets) (pointer bus choice status line : ℕ)
+module _ (c : ℕ) (hc : c < 2) (u : List ℕ) (fit : Fit (partOf c) u) (zeros : (s : ℕ) → 18 < s → getD u s 0 ≡ 0) (x : Sets) (pointer bus choice status line mode : ℕ)
     (d : Within (partOf c .width) x) where
   held : Holds (partOf c) u (withSets u x) (core (fileOf (partOf c) u) x)
   held = holds-sets (partOf c) (sound c) u u x fit d refl (λ s h. refl)
@@ -98,7 +54,10 @@ module _ (c : ℕ) (hc : c < 2) (u : List ℕ) (fit : Fit (partOf c) u) (zeros :
   w5 = set w4 20 line
 
   abbrev w6 : List ℕ
-  w6 = set w5 27 c
+  w6 = set w5 24 mode
+
+  abbrev w7 : List ℕ
+  w7 = set w6 27 c
 
   fit1 : Fit (partOf c) w1
   fit1 = fit-past c w0 21 pointer (omega arith) (held .fit)
@@ -115,71 +74,82 @@ module _ (c : ℕ) (hc : c < 2) (u : List ℕ) (fit : Fit (partOf c) u) (zeros :
   fit5 : Fit (partOf c) w5
   fit5 = fit-past c w4 20 line (omega arith) fit4
 
-  -- a word that the last three stores do not reach
-  before-kept : (s : ℕ) → (s ≡ 19 → ⊥) → (s ≡ 20 → ⊥) → (s ≡ 27 → ⊥) → getD w6 s 0 ≡ getD w3 s 0
-  before-kept s a b e = getD-set-other w5 27 s c 0 e ∙ getD-set-other w4 20 s line 0 b ∙ getD-set-other w3 19 s status 0 a
+  fit6 : Fit (partOf c) w6
+  fit6 = fit-past c w5 24 mode (omega arith) fit5
 
-  at-pointer : getD w6 21 0 ≡ pointer
+  -- a word that the last two stores do not reach
+  before-mode : (s : ℕ) → (s ≡ 24 → ⊥) → (s ≡ 27 → ⊥) → getD w7 s 0 ≡ getD w5 s 0
+  before-mode s m e = getD-set-other w6 27 s c 0 e ∙ getD-set-other w5 24 s mode 0 m
+
+  -- nor the two before them
+  before-kept : (s : ℕ) → (s ≡ 19 → ⊥) → (s ≡ 20 → ⊥) → (s ≡ 24 → ⊥) → (s ≡ 27 → ⊥) → getD w7 s 0 ≡ getD w3 s 0
+  before-kept s a b m e = before-mode s m e ∙ getD-set-other w4 20 s line 0 b ∙ getD-set-other w3 19 s status 0 a
+
+  at-pointer : getD w7 21 0 ≡ pointer
   at-pointer =
-      before-kept 21 (λ e. omega (arith, e)) (λ e. omega (arith, e)) (λ e. omega (arith, e)) ∙ getD-set-other w2 23 21 choice 0 (λ e. omega (arith, e))
+      before-kept 21 (λ e. omega (arith, e)) (λ e. omega (arith, e)) (λ e. omega (arith, e)) (λ e. omega (arith, e)) ∙ getD-set-other w2 23 21 choice 0 (λ e. omega (arith, e))
       ∙ getD-set-other w1 22 21 bus 0 (λ e. omega (arith, e)) ∙ getD-set-same w0 21 pointer 0 (omega (arith, held .fit .full))
 
-  at-bus : getD w6 22 0 ≡ bus
+  at-bus : getD w7 22 0 ≡ bus
   at-bus =
-      before-kept 22 (λ e. omega (arith, e)) (λ e. omega (arith, e)) (λ e. omega (arith, e)) ∙ getD-set-other w2 23 22 choice 0 (λ e. omega (arith, e))
+      before-kept 22 (λ e. omega (arith, e)) (λ e. omega (arith, e)) (λ e. omega (arith, e)) (λ e. omega (arith, e)) ∙ getD-set-other w2 23 22 choice 0 (λ e. omega (arith, e))
       ∙ getD-set-same w1 22 bus 0 (omega (arith, fit1 .full))
 
-  at-choice : getD w6 23 0 ≡ choice
-  at-choice = before-kept 23 (λ e. omega (arith, e)) (λ e. omega (arith, e)) (λ e. omega (arith, e)) ∙ getD-set-same w2 23 choice 0 (omega (arith, fit2 .full))
+  at-choice : getD w7 23 0 ≡ choice
+  at-choice = before-kept 23 (λ e. omega (arith, e)) (λ e. omega (arith, e)) (λ e. omega (arith, e)) (λ e. omega (arith, e)) ∙ getD-set-same w2 23 choice 0 (omega (arith, fit2 .full))
 
-  kept : interruptIn w6 ≡ interrupt status line
+  at-mode : getD w7 24 0 ≡ mode
+  at-mode = getD-set-other w6 27 24 c 0 (λ e. omega (arith, e)) ∙ getD-set-same w5 24 mode 0 (omega (arith, fit5 .full))
+
+  kept : interruptIn w7 ≡ interrupt status line
   kept =
       same-interrupt
-      (getD-set-other w5 27 19 c 0 (λ e. omega (arith, e)) ∙ getD-set-other w4 20 19 line 0 (λ e. omega (arith, e)) ∙ getD-set-same w3 19 status 0 (omega (arith, fit3 .full)))
-      (getD-set-other w5 27 20 c 0 (λ e. omega (arith, e)) ∙ getD-set-same w4 20 line 0 (omega (arith, fit4 .full)))
+      (before-mode 19 (λ e. omega (arith, e)) (λ e. omega (arith, e)) ∙ getD-set-other w4 20 19 line 0 (λ e. omega (arith, e)) ∙ getD-set-same w3 19 status 0 (omega (arith, fit3 .full)))
+      (before-mode 20 (λ e. omega (arith, e)) (λ e. omega (arith, e)) ∙ getD-set-same w4 20 line 0 (omega (arith, fit4 .full)))
 
-  unused-zero : (s : ℕ) → 23 < s → s < 27 → getD w6 s 0 ≡ 0
+  unused-zero : (s : ℕ) → 24 < s → s < 27 → getD w7 s 0 ≡ 0
   unused-zero s h l =
-      before-kept s (λ e. omega (arith, e)) (λ e. omega (arith, e)) (λ e. omega (arith, e))
+      before-kept s (λ e. omega (arith, e)) (λ e. omega (arith, e)) (λ e. omega (arith, e)) (λ e. omega (arith, e))
       ∙ getD-set-other w2 23 s choice 0 (λ e. omega (arith, e)) ∙ getD-set-other w1 22 s bus 0 (λ e. omega (arith, e)) ∙ getD-set-other w0 21 s pointer 0 (λ e. omega (arith, e))
       ∙ held .rest s (omega arith) ∙ zeros s (omega arith)
 
-  regs : coreIn (partOf c) w6 ≡ core (fileOf (partOf c) u) x
+  regs : coreIn (partOf c) w7 ≡ core (fileOf (partOf c) u) x
   regs =
-      core-past c w5 27 c (omega arith) ∙ core-past c w4 20 line (omega arith) ∙ core-past c w3 19 status (omega arith)
+      core-past c w6 27 c (omega arith) ∙ core-past c w5 24 mode (omega arith) ∙ core-past c w4 20 line (omega arith) ∙ core-past c w3 19 status (omega arith)
       ∙ core-past c w2 23 choice (omega arith) ∙ core-past c w1 22 bus (omega arith) ∙ core-past c w0 21 pointer (omega arith) ∙ held .core
 
-  pub packed-state : stateIn (partOf c) w6 ≡ state (core (fileOf (partOf c) u) x) (interrupt status line) pointer bus choice
-  packed-state = same-state regs kept at-pointer at-bus at-choice
+  pub packed-state : stateIn (partOf c) w7 ≡ state (core (fileOf (partOf c) u) x) (interrupt status line) pointer mode bus choice
+  packed-state = same-state regs kept at-pointer at-mode at-bus at-choice
 
-  pub packed-words : reserved (partOf c) pointer ≡ false → bus < 8 → choice < 4 → interrupt status line ≡ workedOut (partOf c) (core (fileOf (partOf c) u) x) → Packed c w6
-  packed-words known hb hch right = record {
+  pub packed-words : reserved (partOf c) pointer ≡ false → mode < 2 → bus < 8 → choice < 4 → interrupt status line ≡ workedOut (partOf c) (core (fileOf (partOf c) u) x) → Packed c w7
+  packed-words known hm hb hch right = record {
     known-part = hc;
-    fit = fit-past c w5 27 c (omega arith) fit5;
+    fit = fit-past c w6 27 c (omega arith) fit6;
     right = kept ∙ right ∙ ap (workedOut (partOf c)) (sym regs);
-    none = unused-case (λ s. getD w6 s 0 ≡ 0) (unused-zero 24 (omega arith) (omega arith)) (unused-zero 25 (omega arith) (omega arith)) (unused-zero 26 (omega arith) (omega arith));
+    none = unused-case (λ s. getD w7 s 0 ≡ 0) (unused-zero 25 (omega arith) (omega arith)) (unused-zero 26 (omega arith) (omega arith));
     pointer-known = ap (reserved (partOf c)) at-pointer ∙ known;
+    mode-small = rw at-mode hm;
     bus-small = rw at-bus hb;
     choice-small = rw at-choice hch;
-    part-is = getD-set-same w5 27 c 0 (omega (arith, fit5 .full));
+    part-is = getD-set-same w6 27 c 0 (omega (arith, fit6 .full));
   }
 
 -- ---- words made of an image, judged
 module _ (c : ℕ) (u file : List ℕ) (fit : Fit (partOf c) u) (zeros : (s : ℕ) → 18 < s → getD u s 0 ≡ 0)
-    (taken : fileFits (partOf c) file ≡ true → fileOf (partOf c) u ≡ file) (x : Sets) (pointer bus choice status line : ℕ) where
+    (taken : fileFits (partOf c) file ≡ true → fileOf (partOf c) u ≡ file) (x : Sets) (pointer bus choice status line mode : ℕ) where
   abbrev image : State
-  image = state (core file x) (interrupt status line) pointer bus choice
+  image = state (core file x) (interrupt status line) pointer mode bus choice
 
   abbrev made : List ℕ
-  made = set (set (set (set (set (set (withSets u x) 21 pointer) 22 bus) 23 choice) 19 status) 20 line) 27 c
+  made = set (set (set (set (set (set (set (withSets u x) 21 pointer) 22 bus) 23 choice) 19 status) 20 line) 24 mode) 27 c
 
   would-fit : c < 2 → imageFits (partOf c) image ≡ true → Packed c made × (stateIn (partOf c) made ≡ image)
   would-fit h e =
-      let f = fitting-of (partOf c) image e in (
-        packed-words c h u fit zeros x pointer bus choice status line (f .within) (f .pointer-known) (f .bus-small) (f .choice-small)
+      let f = sound-of (partOf c) image e in (
+        packed-words c h u fit zeros x pointer bus choice status line mode (f .within) (f .pointer-known) (f .mode-small) (f .bus-small) (f .choice-small)
             (f .right ∙ ap (λ (l : List ℕ). workedOut (partOf c) (core l x)) (sym (taken (f .file-fits)))),
-        packed-state c h u fit zeros x pointer bus choice status line (f .within)
-            ∙ ap (λ (l : List ℕ). state (core l x) (interrupt status line) pointer bus choice) (taken (f .file-fits)),
+        packed-state c h u fit zeros x pointer bus choice status line mode (f .within)
+            ∙ ap (λ (l : List ℕ). state (core l x) (interrupt status line) pointer mode bus choice) (taken (f .file-fits)),
       )
 
   not-judged : (c < 2 → imageFits (partOf c) image ≡ true → ⊥) → (w : List ℕ) → Packs c image false w w
@@ -206,17 +176,17 @@ module _ (c : ℕ) (u file : List ℕ) (fit : Fit (partOf c) u) (zeros : (s : �
       sets : setsIn made ≡ x
       sets =
           ap (λ (r : Core). r .sets)
-          (core-past c _ 27 c (omega arith) ∙ core-past c _ 20 line (omega arith) ∙ core-past c _ 19 status (omega arith) ∙ core-past c _ 23 choice (omega arith) ∙ core-past c _ 22 bus (omega arith) ∙ core-past c (withSets u x) 21 pointer (omega arith))
+          (core-past c _ 27 c (omega arith) ∙ core-past c _ 24 mode (omega arith) ∙ core-past c _ 20 line (omega arith) ∙ core-past c _ 19 status (omega arith) ∙ core-past c _ 23 choice (omega arith) ∙ core-past c _ 22 bus (omega arith) ∙ core-past c (withSets u x) 21 pointer (omega arith))
           ∙ sets-there u x (fit .full)
 
       inside : Within (partOf c .width) x
       inside = subst (Within (partOf c .width)) sets (within (partOf c) (sound c) made (k .fit))
 
-      held : stateIn (partOf c) made ≡ state (core (fileOf (partOf c) u) x) (interrupt status line) pointer bus choice
-      held = packed-state c (k .known-part) u fit zeros x pointer bus choice status line inside
+      held : stateIn (partOf c) made ≡ state (core (fileOf (partOf c) u) x) (interrupt status line) pointer mode bus choice
+      held = packed-state c (k .known-part) u fit zeros x pointer bus choice status line mode inside
 
       same : stateIn (partOf c) made ≡ image
-      same = held ∙ ap (λ (l : List ℕ). state (core l x) (interrupt status line) pointer bus choice) (sym (ap (λ (s : State). s .regs .file) held) ∙ e)
+      same = held ∙ ap (λ (l : List ℕ). state (core l x) (interrupt status line) pointer mode bus choice) (sym (ap (λ (s : State). s .regs .file) held) ∙ e)
 
 -- ---- and back
 small : (x m : ℕ) → x < m → m < 257 → x % 256 ≡ x
@@ -228,7 +198,7 @@ unpacked c w k =
     let b = bounded-of c w k in
     same-state (ap (λ (p : ℕ). core (fileOf (partOf p) w) (setsIn w)) (k .part-is))
     (same-interrupt refl (small (getD w 20 0) 2 (line-small (partOf c) (coreIn (partOf c) w) (interruptIn w) (k .right)) (omega arith)))
-    (small (getD w 21 0) 128 (b .pointer-small) (omega arith)) (small (getD w 22 0) 8 (b .bus-small) (omega arith)) (small (getD w 23 0) 4 (b .choice-small) (omega arith))
+    (small (getD w 21 0) 128 (b .pointer-small) (omega arith)) (small (getD w 24 0) 2 (b .mode-small) (omega arith)) (small (getD w 22 0) 8 (b .bus-small) (omega arith)) (small (getD w 23 0) 4 (b .choice-small) (omega arith))
 
 -- the image of packed words, packed again, gives the same words
 pub packed-again : (c : ℕ) (w v w' : List ℕ) (fits : Bool) → Packed c w → Packs c (stateIn (partOf c) w) fits v w' → w' ≡ w

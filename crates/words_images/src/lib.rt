@@ -14,6 +14,7 @@ use pins::Sets;
 use words::BUS;
 use words::CHOICE;
 use words::LINE;
+use words::MODE;
 use words::PART;
 use words::POINTER;
 use words::STATUS;
@@ -81,8 +82,9 @@ pub fn pack(
     choice: u64,
     status: u64,
     line: u64,
+    mode: u64,
 ) -> bool
-    ensures { λ fits. ⌜ Packs part (state (core (now (file .entry)) sets) (interrupt status line) pointer bus choice) fits (now (words .entry)) (now (words .exit)) ⌝ }
+    ensures { λ fits. ⌜ Packs part (state (core (now (file .entry)) sets) (interrupt status line) pointer mode bus choice) fits (now (words .entry)) (now (words .exit)) ⌝ }
 {
     let mut fresh = [0u64; 28];
     from_file(&mut fresh, part, file);
@@ -92,6 +94,7 @@ pub fn pack(
     fresh[CHOICE] = choice;
     fresh[STATUS] = status;
     fresh[LINE] = line;
+    fresh[MODE] = mode;
     fresh[PART] = part;
     if !stand_for(&fresh, part, file) {
         return false;
@@ -115,6 +118,7 @@ pub fn unpack(words: &[u64; 28], file: &mut [u8; 128]) -> Rest
     let choice = (words[CHOICE] % 256) as u8;
     let status = words[STATUS];
     let line = (words[LINE] % 256) as u8;
+    let mode = (words[MODE] % 256) as u8;
     Rest {
         sets,
         pointer,
@@ -122,5 +126,6 @@ pub fn unpack(words: &[u64; 28], file: &mut [u8; 128]) -> Rest
         choice,
         status,
         line,
+        mode,
     }
 }

@@ -2,7 +2,7 @@
 use mathlib.Core.Path.{_≡_, refl, sym, ap, _∙_}
 use mathlib.Core.Bool.{Bool, true, false, cond}
 use mathlib.Core.List.{List}
-use Prim.Native.Nat.{ℕ, zero, suc, _+_, _-_, _%_, _^_, _<_, _≤_}
+use Prim.Native.Nat.{ℕ, zero, suc, _+_, _-_, _/_, _%_, _^_, _<_, _≤_}
 use native.Mathlib.Nat.{mod-eq-of-lt}
 use native.Mathlib.Omega.{arith}
 use borrow.Author.Tests.{eq-eqb, ne-eqb, lt-ltb, ltb-true, ltb-false}
@@ -36,6 +36,7 @@ module _ (c : ℕ) (w : List ℕ) (k : Packed c w) where
       let d = within (partOf c) (sound c) w (k .fit) in
       simp (
         k .pointer-known,
+        lt-ltb (getD w 24 0) 2 (k .mode-small),
         lt-ltb (getD w 22 0) 8 (k .bus-small),
         lt-ltb (getD w 23 0) 4 (k .choice-small),
         lt-ltb (getD w 0 0) (2 ^ partOf c .width) (d .level-small),
@@ -102,7 +103,7 @@ module _ (p : Part) (s : State) where
       (either (eqb v (addressByte s + 1)) (out Ack (goes s Sending)) (cond (eqb v 0x00) (out Ack (goes s Call)) (out Nak (goes s Deaf))) (record { is = refl })
       (either (eqb v 0x00) (out Ack (goes s Call)) (out Nak (goes s Deaf)) (record { is = refl }) (record { is = refl })))
   plain-byte Chosen v =
-      either (reserved p v) (out Nak (goes s Deaf)) (out Ack (state (s .regs) (s .interrupt) v (number Filling) (s .choice))) (record { is = refl }) (record { is = refl })
+      either (reserved p (v % 128)) (out Nak (goes s Deaf)) (out Ack (state (s .regs) (s .interrupt) (v % 128) (v / 128 % 2) (number Filling) (s .choice))) (record { is = refl }) (record { is = refl })
   plain-byte Call v = either (eqb v 0x06) (out Ack (goes s Armed)) (out Nak (goes s Deaf)) (record { is = refl }) (record { is = refl })
   plain-byte Filling v = record { is = refl }
   plain-byte Armed v = record { is = refl }
@@ -177,7 +178,7 @@ same-packed c w w' k k' e = ext-getD 0 w w' (k .fit .full ∙ sym (k' .fit .full
         let past : 19 ≤ s = ltb-false s 19 r in
         let z : s - 19 + 19 ≡ s = omega arith in
         rw z at (last-words (λ s. getD w s 0 ≡ getD w' s 0) (ap (λ (s : State). s .interrupt .status) e) (ap (λ (s : State). s .interrupt .line) e) (ap (λ (s : State). s .pointer) e) (ap (λ (s : State). s .bus) e)
-        (ap (λ (s : State). s .choice) e) (none 24 refl) (none 25 refl) (none 26 refl) (k .part-is ∙ sym (k' .part-is)) (s - 19) (omega arith))
+        (ap (λ (s : State). s .choice) e) (ap (λ (s : State). s .mode) e) (none 25 refl) (none 26 refl) (k .part-is ∙ sym (k' .part-is)) (s - 19) (omega arith))
 
 -- ---- a step, judged
 module _ (c : ℕ) (w : List ℕ) (kind arg : ℕ) where
@@ -200,6 +201,7 @@ bounded-of c w k = record {
   right = k .right;
   none = k .none;
   pointer-small = known-small (rowAt (partOf c) (getD w 21 0)) c (getD w 21 0) (k .pointer-known) refl;
+  mode-small = k .mode-small;
   bus-small = k .bus-small;
   choice-small = k .choice-small;
   part-is = k .part-is;
@@ -216,6 +218,7 @@ module _ (c : ℕ) (hc : c < 2) (w : List ℕ) (b : Bounded c w) (row : ℕ) (e 
     right = b .right;
     none = b .none;
     pointer-known = sym (row-zero row c (getD w 21 0) (b .pointer-small) row-there) ∙ ne-eqb row 0 z;
+    mode-small = b .mode-small;
     bus-small = b .bus-small;
     choice-small = b .choice-small;
     part-is = b .part-is;

@@ -1,11 +1,11 @@
 -- Packed words stay packed when their registers and pins, their pointer or their bus state change, and hold the state so changed. Assumes nothing.
 use mathlib.Core.Path.{_≡_, refl, sym, ap, ap₂, _∙_}
-use mathlib.Core.Bool.{Bool, true, false, not, _&&_, _||_}
+use mathlib.Core.Bool.{Bool, true, false, _&&_}
 use mathlib.Core.List.{List, [], _∷_}
 use Prim.Native.Nat.{ℕ, zero, suc, _+_, _*_, _/_, _%_, _<_}
-use native.Mathlib.Nat.{mod-eq-of-lt}
+use native.Mathlib.Nat.{mod-eq-of-lt, mod-lt}
 use native.Mathlib.Omega.{arith}
-use borrow.Author.Tests.{eqb-true, eqb-false, ltb-true, le-ltb}
+use borrow.Author.Tests.{eqb-true, eqb-false, ltb-true}
 use lib.Arith.{digits-div, digits-mod}
 use lib.Dec.{eqb, ltb}
 use lib.ListN.{getD, set, length-set}
@@ -13,8 +13,7 @@ use lib.Seq.{getD-set-same, getD-set-other}
 use Rattle.bits.specs.Bits.{bit}
 use Rattle.bits.proofs.Decide.{and-left, and-right}
 use Rattle.pins.proofs.AllPins.{same}
-use Rattle.map.specs.Map.{Part, kindAt, code, reserved, partOf}
-use Rattle.map.specs.Map.Kind.{Reserved}
+use Rattle.map.specs.Map.{reserved, partOf}
 use Rattle.registers.specs.Registers.{Core}
 use Rattle.registers.specs.Interrupt.{Interrupt, workedOut}
 use Rattle.registers.proofs.Kept.{same-interrupt}
@@ -32,21 +31,20 @@ use Rattle.words_rows.proofs.Taken.{row-zero}
 use Rattle.words_state.specs.Packed.{stateIn, answerAt, unused, Packed, Becomes, Leaves}
 
 -- the unused words
-pub unused-case : (P : ℕ → Type 0) → P 24 → P 25 → P 26 → (s : ℕ) → unused s ≡ true → P s
-unused-case P c d e s u = go (eqb s 24) refl (eqb s 25) refl
+pub unused-case : (P : ℕ → Type 0) → P 25 → P 26 → (s : ℕ) → unused s ≡ true → P s
+unused-case P d e s u = go (eqb s 25) refl
   where
-    go : (p : Bool) → eqb s 24 ≡ p → (q : Bool) → eqb s 25 ≡ q → P s
-    go true p q r = rw (eqb-true s 24 p) c
-    go false p true r = rw (eqb-true s 25 r) d
-    go false p false r =
-        let h : 23 < s = ltb-true 23 s (and-left (ltb 23 s) (ltb s 27) u) in
-        let l : s < 27 = ltb-true s 27 (and-right (ltb 23 s) (ltb s 27) u) in
-        let q : s ≡ 26 = omega (arith, eqb-false s 24 p, eqb-false s 25 r) in
+    go : (q : Bool) → eqb s 25 ≡ q → P s
+    go true r = rw (eqb-true s 25 r) d
+    go false r =
+        let h : 24 < s = ltb-true 24 s (and-left (ltb 24 s) (ltb s 27) u) in
+        let l : s < 27 = ltb-true s 27 (and-right (ltb 24 s) (ltb s 27) u) in
+        let q : s ≡ 26 = omega (arith, eqb-false s 25 r) in
         rw q e
 
 -- an unused word is past those that events change
-unused-past : (s : ℕ) → unused s ≡ true → 23 < s
-unused-past s u = ltb-true 23 s (and-left (ltb 23 s) (ltb s 27) u)
+unused-past : (s : ℕ) → unused s ≡ true → 24 < s
+unused-past s u = ltb-true 24 s (and-left (ltb 24 s) (ltb s 27) u)
 
 -- ---- a word past those of registers and pins
 module _ (c : ℕ) (w : List ℕ) (s x : ℕ) (past : 18 < s) where
@@ -81,6 +79,7 @@ module _ (c : ℕ) (w : List ℕ) (k : Packed c w) where
     right = h .right ∙ ap (workedOut (partOf c)) (sym (h .core));
     none = λ s e. h .rest s (let p = unused-past s e in omega arith) ∙ k .none s e;
     pointer-known = ap (reserved (partOf c)) (h .rest 21 (omega arith)) ∙ k .pointer-known;
+    mode-small = rw (h .rest 24 (omega arith)) (k .mode-small);
     bus-small = rw (h .rest 22 (omega arith)) (k .bus-small);
     choice-small = rw (h .rest 23 (omega arith)) (k .choice-small);
     part-is = h .rest 27 (omega arith) ∙ k .part-is;
@@ -94,9 +93,24 @@ module _ (c : ℕ) (w : List ℕ) (k : Packed c w) where
     right = right-past c w 21 x (omega arith) (k .right);
     none = λ s u. getD-set-other w 21 s x 0 (let p = unused-past s u in λ z. omega (arith, z)) ∙ k .none s u;
     pointer-known = ap (reserved (partOf c)) (getD-set-same w 21 x 0 (omega (arith, k .fit .full))) ∙ e;
+    mode-small = rw (getD-set-other w 21 24 x 0 (λ z. omega (arith, z))) (k .mode-small);
     bus-small = rw (getD-set-other w 21 22 x 0 (λ z. omega (arith, z))) (k .bus-small);
     choice-small = rw (getD-set-other w 21 23 x 0 (λ z. omega (arith, z))) (k .choice-small);
     part-is = getD-set-other w 21 27 x 0 (λ z. omega (arith, z)) ∙ k .part-is;
+  }
+
+  -- the mode changes
+  packed-mode : (m : ℕ) → m < 2 → Packed c (set w 24 m)
+  packed-mode m h = record {
+    known-part = k .known-part;
+    fit = fit-past c w 24 m (omega arith) (k .fit);
+    right = right-past c w 24 m (omega arith) (k .right);
+    none = λ s u. getD-set-other w 24 s m 0 (let p = unused-past s u in λ z. omega (arith, z)) ∙ k .none s u;
+    pointer-known = ap (reserved (partOf c)) (getD-set-other w 24 21 m 0 (λ z. omega (arith, z))) ∙ k .pointer-known;
+    mode-small = rw (getD-set-same w 24 m 0 (omega (arith, k .fit .full))) h;
+    bus-small = rw (getD-set-other w 24 22 m 0 (λ z. omega (arith, z))) (k .bus-small);
+    choice-small = rw (getD-set-other w 24 23 m 0 (λ z. omega (arith, z))) (k .choice-small);
+    part-is = getD-set-other w 24 27 m 0 (λ z. omega (arith, z)) ∙ k .part-is;
   }
 
   -- the bus state changes
@@ -107,20 +121,27 @@ module _ (c : ℕ) (w : List ℕ) (k : Packed c w) where
     right = right-past c w 22 b (omega arith) (k .right);
     none = λ s u. getD-set-other w 22 s b 0 (let p = unused-past s u in λ z. omega (arith, z)) ∙ k .none s u;
     pointer-known = ap (reserved (partOf c)) (getD-set-other w 22 21 b 0 (λ z. omega (arith, z))) ∙ k .pointer-known;
+    mode-small = rw (getD-set-other w 22 24 b 0 (λ z. omega (arith, z))) (k .mode-small);
     bus-small = rw (getD-set-same w 22 b 0 (omega (arith, k .fit .full))) h;
     choice-small = rw (getD-set-other w 22 23 b 0 (λ z. omega (arith, z))) (k .choice-small);
     part-is = getD-set-other w 22 27 b 0 (λ z. omega (arith, z)) ∙ k .part-is;
   }
 
-  pub state-pointer : (x : ℕ) → stateIn (partOf c) (set w 21 x) ≡ state (coreIn (partOf c) w) (interruptIn w) x (getD w 22 0) (getD w 23 0)
+  pub state-pointer : (x : ℕ) → stateIn (partOf c) (set w 21 x) ≡ state (coreIn (partOf c) w) (interruptIn w) x (getD w 24 0) (getD w 22 0) (getD w 23 0)
   state-pointer x =
       same-state (core-past c w 21 x (omega arith)) (interrupt-past c w 21 x (omega arith)) (getD-set-same w 21 x 0 (omega (arith, k .fit .full)))
-      (getD-set-other w 21 22 x 0 (λ z. omega (arith, z))) (getD-set-other w 21 23 x 0 (λ z. omega (arith, z)))
+      (getD-set-other w 21 24 x 0 (λ z. omega (arith, z))) (getD-set-other w 21 22 x 0 (λ z. omega (arith, z))) (getD-set-other w 21 23 x 0 (λ z. omega (arith, z)))
 
-  pub state-bus : (b : ℕ) → stateIn (partOf c) (set w 22 b) ≡ state (coreIn (partOf c) w) (interruptIn w) (getD w 21 0) b (getD w 23 0)
+  pub state-bus : (b : ℕ) → stateIn (partOf c) (set w 22 b) ≡ state (coreIn (partOf c) w) (interruptIn w) (getD w 21 0) (getD w 24 0) b (getD w 23 0)
   state-bus b =
       same-state (core-past c w 22 b (omega arith)) (interrupt-past c w 22 b (omega arith)) (getD-set-other w 22 21 b 0 (λ z. omega (arith, z)))
+      (getD-set-other w 22 24 b 0 (λ z. omega (arith, z)))
       (getD-set-same w 22 b 0 (omega (arith, k .fit .full))) (getD-set-other w 22 23 b 0 (λ z. omega (arith, z)))
+
+  state-mode : (m : ℕ) → stateIn (partOf c) (set w 24 m) ≡ state (coreIn (partOf c) w) (interruptIn w) (getD w 21 0) m (getD w 22 0) (getD w 23 0)
+  state-mode m =
+      same-state (core-past c w 24 m (omega arith)) (interrupt-past c w 24 m (omega arith)) (getD-set-other w 24 21 m 0 (λ z. omega (arith, z)))
+      (getD-set-same w 24 m 0 (omega (arith, k .fit .full))) (getD-set-other w 24 22 m 0 (λ z. omega (arith, z))) (getD-set-other w 24 23 m 0 (λ z. omega (arith, z)))
 
 -- ---- registers and pins changed, and the interrupt with them
 module _ (c : ℕ) (w u : List ℕ) {after : Core} (h : Holds (partOf c) w u after) where
@@ -156,15 +177,15 @@ module _ (c : ℕ) (w : List ℕ) (k : Packed c w) (a : Answer) where
   pub left-same : {o : Outcome} → out a (stateIn (partOf c) w) ≡ o → Leaves c w a o
   left-same q = record { outcome = q; packed = k }
 
-  pub left-bus : (b : ℕ) → b < 8 → {o : Outcome} → out a (state (coreIn (partOf c) w) (interruptIn w) (getD w 21 0) b (getD w 23 0)) ≡ o → Leaves c (set w 22 b) a o
+  pub left-bus : (b : ℕ) → b < 8 → {o : Outcome} → out a (state (coreIn (partOf c) w) (interruptIn w) (getD w 21 0) (getD w 24 0) b (getD w 23 0)) ≡ o → Leaves c (set w 22 b) a o
   left-bus b h q = record { outcome = ap (out a) (state-bus c w k b) ∙ q; packed = packed-bus c w k b h }
 
-  pub left-pointer : (x : ℕ) → reserved (partOf c) x ≡ false → {o : Outcome} → out a (state (coreIn (partOf c) w) (interruptIn w) x (getD w 22 0) (getD w 23 0)) ≡ o → Leaves c (set w 21 x) a o
+  pub left-pointer : (x : ℕ) → reserved (partOf c) x ≡ false → {o : Outcome} → out a (state (coreIn (partOf c) w) (interruptIn w) x (getD w 24 0) (getD w 22 0) (getD w 23 0)) ≡ o → Leaves c (set w 21 x) a o
   left-pointer x h q = record { outcome = ap (out a) (state-pointer c w k x) ∙ q; packed = packed-pointer c w k x h }
 
   -- the answer and the words as a function has them
   pub went : (b : ℕ) → b < 8 → {a' : Answer} {w' : List ℕ} {o : Outcome} → a' ≡ a → w' ≡ set w 22 b
-      → out a (state (coreIn (partOf c) w) (interruptIn w) (getD w 21 0) b (getD w 23 0)) ≡ o → Leaves c w' a' o
+      → out a (state (coreIn (partOf c) w) (interruptIn w) (getD w 21 0) (getD w 24 0) b (getD w 23 0)) ≡ o → Leaves c w' a' o
   went b h ea ew q = rw (ea, ew) (left-bus b h q)
 
 -- the same after a change of registers and pins
@@ -173,32 +194,30 @@ module _ (c : ℕ) (w u : List ℕ) (k : Packed c w) (after : Core) (h : Becomes
   beside : (s : ℕ) → 20 < s → getD u s 0 ≡ getD w s 0
   beside = h .rest
 
-  pub holds-left : {o : Outcome} → out a (state after (workedOut (partOf c) after) (getD w 21 0) (getD w 22 0) (getD w 23 0)) ≡ o → Leaves c u a o
+  pub holds-left : {o : Outcome} → out a (state after (workedOut (partOf c) after) (getD w 21 0) (getD w 24 0) (getD w 22 0) (getD w 23 0)) ≡ o → Leaves c u a o
   holds-left q =
       left-same c u (packed-becomes c w k h) a
-      (ap (out a) (same-state (h .core) (h .right) (beside 21 (omega arith)) (beside 22 (omega arith)) (beside 23 (omega arith))) ∙ q)
+      (ap (out a) (same-state (h .core) (h .right) (beside 21 (omega arith)) (beside 24 (omega arith)) (beside 22 (omega arith)) (beside 23 (omega arith))) ∙ q)
 
-  pub holds-bus : (b : ℕ) → b < 8 → {o : Outcome} → out a (state after (workedOut (partOf c) after) (getD w 21 0) b (getD w 23 0)) ≡ o → Leaves c (set u 22 b) a o
+  pub holds-bus : (b : ℕ) → b < 8 → {o : Outcome} → out a (state after (workedOut (partOf c) after) (getD w 21 0) (getD w 24 0) b (getD w 23 0)) ≡ o → Leaves c (set u 22 b) a o
   holds-bus b l q =
-      left-bus c u (packed-becomes c w k h) a b l (ap (out a) (same-state (h .core) (h .right) (beside 21 (omega arith)) refl (beside 23 (omega arith))) ∙ q)
+      left-bus c u (packed-becomes c w k h) a b l (ap (out a) (same-state (h .core) (h .right) (beside 21 (omega arith)) (beside 24 (omega arith)) refl (beside 23 (omega arith))) ∙ q)
 
-  pub holds-pointer : (x : ℕ) → reserved (partOf c) x ≡ false → {o : Outcome} → out a (state after (workedOut (partOf c) after) x (getD w 22 0) (getD w 23 0)) ≡ o → Leaves c (set u 21 x) a o
+  pub holds-pointer : (x : ℕ) → reserved (partOf c) x ≡ false → {o : Outcome} → out a (state after (workedOut (partOf c) after) x (getD w 24 0) (getD w 22 0) (getD w 23 0)) ≡ o → Leaves c (set u 21 x) a o
   holds-pointer x l q =
-      left-pointer c u (packed-becomes c w k h) a x l (ap (out a) (same-state (h .core) (h .right) refl (beside 22 (omega arith)) (beside 23 (omega arith))) ∙ q)
+      left-pointer c u (packed-becomes c w k h) a x l (ap (out a) (same-state (h .core) (h .right) refl (beside 24 (omega arith)) (beside 22 (omega arith)) (beside 23 (omega arith))) ∙ q)
 
-pub chose : (c : ℕ) (w : List ℕ) → Packed c w → (a : Answer) (x b : ℕ) → reserved (partOf c) x ≡ false → b < 8 → {a' : Answer} {w' : List ℕ} {o : Outcome}
-    → a' ≡ a → w' ≡ set (set w 21 x) 22 b → out a (state (coreIn (partOf c) w) (interruptIn w) x b (getD w 23 0)) ≡ o → Leaves c w' a' o
-chose c w k a x b e h ea ew q =
-    went c (set w 21 x) (packed-pointer c w k x e) a b h ea ew
-    (ap (λ (s : State). out a (state (s .regs) (s .interrupt) (s .pointer) b (s .choice))) (state-pointer c w k x) ∙ q)
+pub chose : (c : ℕ) (w : List ℕ) → Packed c w → (a : Answer) (x m b : ℕ) → reserved (partOf c) x ≡ false → m < 2 → b < 8 → {a' : Answer} {w' : List ℕ} {o : Outcome}
+    → a' ≡ a → w' ≡ set (set (set w 21 x) 24 m) 22 b → out a (state (coreIn (partOf c) w) (interruptIn w) x m b (getD w 23 0)) ≡ o → Leaves c w' a' o
+chose c w k a x m b e hm h ea ew q =
+    let pointed = packed-pointer c w k x e in
+    went c (set (set w 21 x) 24 m) (packed-mode c (set w 21 x) pointed m hm) a b h ea ew
+    (ap (λ (s : State). out a (state (s .regs) (s .interrupt) (s .pointer) (s .mode) b (s .choice))) (state-mode c (set w 21 x) pointed m)
+    ∙ ap (λ (s : State). out a (state (s .regs) (s .interrupt) (s .pointer) m b (s .choice))) (state-pointer c w k x) ∙ q)
 
 -- ---- a command
-pub over : (p : Part) (v : ℕ) → 127 < v → reserved p v ≡ true
-unfolding reserved
-over p v h = ap (λ (t : Bool). not t || eqb (code (kindAt p v)) (code Reserved)) (le-ltb v 128 h)
-
-pub command-row : (part row v : ℕ) → v < 128 → row ≡ rowAt (partOf part) (v % 128) → eqb row 0 ≡ reserved (partOf part) v
-command-row part row v h e = let q : v % 128 ≡ v = mod-eq-of-lt h in row-zero row part v h (e ∙ ap (rowAt (partOf part)) q)
+pub command-row : (part row v : ℕ) → row ≡ rowAt (partOf part) (v % 128) → eqb row 0 ≡ reserved (partOf part) (v % 128)
+command-row part row v e = row-zero row part (v % 128) (mod-lt v (omega arith)) e
 
 -- the rule of the bus state is the step's
 pub in-bus : (c : ℕ) (w : List ℕ) (v n : ℕ) {w' : List ℕ} {a : Answer} → getD w 22 0 ≡ n → Leaves c w' a (byteIn (partOf c) (busAt n) (stateIn (partOf c) w) v)

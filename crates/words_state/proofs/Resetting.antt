@@ -39,9 +39,9 @@ by-part (suc c) choice part = record { file = refl; fit = fit-of-small part34 _ 
 
 -- the defaults' words with settled pins, whatever those were
 pub fresh : (c choice : ℕ) → c < 2 → choice < 4 → (pins : ℕ) → pins ≡ 2 ^ partOf c .width - 1 → (x y : Sets) → y ≡ mapPins (partOf c .width) x (λ i. reset)
-    → Leaves c (withSets (resetWords pins choice c) y) Nothing (out Nothing (state (core (defaults (partOf c)) y) quiet 0 (number Idle) choice))
+    → Leaves c (withSets (resetWords pins choice c) y) Nothing (out Nothing (state (core (defaults (partOf c)) y) quiet 0 0 (number Idle) choice))
 fresh c choice hc hchoice pins e x y q =
-    rw e (record { outcome = ap (out Nothing) (same-state regs kept (h .rest 21 (omega arith)) (h .rest 22 (omega arith)) (h .rest 23 (omega arith))); packed = packed })
+    rw e (record { outcome = ap (out Nothing) (same-state regs kept (h .rest 21 (omega arith)) (h .rest 24 (omega arith)) (h .rest 22 (omega arith)) (h .rest 23 (omega arith))); packed = packed })
   where
     d : Defaults c choice c
     d = by-part c choice c
@@ -63,8 +63,9 @@ fresh c choice hc hchoice pins e x y q =
       known-part = hc;
       fit = h .fit;
       right = kept ∙ kept-reset (partOf c) (core [] x) (mapped c) ∙ ap (workedOut (partOf c)) (sym (regs ∙ same-core refl q));
-      none = unused-case (λ s. getD (withSets u y) s 0 ≡ 0) (h .rest 24 (omega arith)) (h .rest 25 (omega arith)) (h .rest 26 (omega arith));
+      none = unused-case (λ s. getD (withSets u y) s 0 ≡ 0) (h .rest 25 (omega arith)) (h .rest 26 (omega arith));
       pointer-known = ap (reserved (partOf c)) (h .rest 21 (omega arith)) ∙ d .known;
+      mode-small = omega (arith, h .rest 24 (omega arith));
       bus-small = omega (arith, h .rest 22 (omega arith));
       choice-small = rw (h .rest 23 (omega arith)) hchoice;
       part-is = h .rest 27 (omega arith);
@@ -75,4 +76,4 @@ pub reset-left : (c : ℕ) (w : List ℕ) → Packed c w → (pins : ℕ) → pi
 unfolding resetted
 reset-left c w k pins e y q =
     rw (k .part-is) (by-rule (fresh c (getD w 23 0) (k .known-part) (k .choice-small) pins e (setsIn w) y q)
-    (ap (λ (y : Sets). out Nothing (state (core (defaults (partOf c)) y) quiet 0 (number Idle) (getD w 23 0))) q))
+    (ap (λ (y : Sets). out Nothing (state (core (defaults (partOf c)) y) quiet 0 0 (number Idle) (getD w 23 0))) q))

@@ -25,15 +25,19 @@ busWord = 22
 abbrev pub choiceWord : ℕ
 choiceWord = 23
 
+-- the pointer's mode
+abbrev pub modeWord : ℕ
+modeWord = 24
+
 abbrev pub partWord : ℕ
 partWord = 27
 
 abbrev pub stateIn : Part → List ℕ → State
-stateIn p w = state (coreIn p w) (interruptIn w) (getD w pointerWord 0) (getD w busWord 0) (getD w choiceWord 0)
+stateIn p w = state (coreIn p w) (interruptIn w) (getD w pointerWord 0) (getD w modeWord 0) (getD w busWord 0) (getD w choiceWord 0)
 
 -- words that nothing uses yet
 abbrev pub unused : ℕ → Bool
-unused s = ltb 23 s && ltb s 27
+unused s = ltb 24 s && ltb s 27
 
 -- the words are the packing of a well-formed image of part c: what is kept of the interrupt is what the rules work out
 pub record Packed (c : ℕ) (w : List ℕ) : Type 0 where
@@ -42,6 +46,7 @@ pub record Packed (c : ℕ) (w : List ℕ) : Type 0 where
   pub right : interruptIn w ≡ workedOut (partOf c) (coreIn (partOf c) w)
   pub none : (s : ℕ) → unused s ≡ true → getD w s 0 ≡ 0
   pub pointer-known : reserved (partOf c) (getD w pointerWord 0) ≡ false
+  pub mode-small : getD w modeWord 0 < 2
   pub bus-small : getD w busWord 0 < 8
   pub choice-small : getD w choiceWord 0 < 4
   pub part-is : getD w partWord 0 ≡ c
@@ -85,6 +90,7 @@ pub record Bounded (c : ℕ) (w : List ℕ) : Type 0 where
   pub right : interruptIn w ≡ workedOut (partOf c) (coreIn (partOf c) w)
   pub none : (s : ℕ) → unused s ≡ true → getD w s 0 ≡ 0
   pub pointer-small : getD w pointerWord 0 < 128
+  pub mode-small : getD w modeWord 0 < 2
   pub bus-small : getD w busWord 0 < 8
   pub choice-small : getD w choiceWord 0 < 4
   pub part-is : getD w partWord 0 ≡ c

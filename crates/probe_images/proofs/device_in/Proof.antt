@@ -7,12 +7,13 @@ use Rattle.probe_images.proofs.device_in.Tie as tie
 
 returns : tie.Need-returns
 returns c =
-    let choice = c .before .before in
+    let line = c .before in
+    let choice = line .before .before in
     let f = choice .before .before .before in
     let s = f .before in (
       image-is _ (f .file-in .ensures) (s .before .before .before .word-at .ensures) (s .before .before .word-at2 .ensures) (s .before .word-at3 .ensures)
           (s .word-at4 .ensures) (choice .before .before .byte-at .ensures) (choice .before .byte-at2 .ensures) (choice .byte-at3 .ensures)
-          (c .before .word-at5 .ensures) (c .byte-at4 .ensures),
+          (line .before .word-at5 .ensures) (line .byte-at4 .ensures) (c .byte-at5 .ensures),
       refl,
     )
 
@@ -20,6 +21,7 @@ pub device-in-spec : {M : Type 1} → statement M
 device-in-spec =
     tie.close
     (tie.spec
+    (λ c κs. search needs)
     (λ c κs. search needs)
     (λ c κs. search needs)
     (λ c κs. search needs)

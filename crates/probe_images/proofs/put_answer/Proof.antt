@@ -15,8 +15,7 @@ returns c =
     let all = low .before in
     let int = all .before .before in
     let words = int .before .before in
-    let casts = words .before .before .before .before .before .before in
-    let x = casts .before .before .before .before in
+    let x = words .before .before .before .before in
     let part = x .args .d .part in
     let e = words-text (words .pack .ensures) _ _ _ (int .int .ensures part) (low .low .ensures part (all .pins-of .ensures)) (high .high .ensures part) (x .args .answer) (x .pre .0) in
     (wrote-as e (p .put-answer .ensures), omega (arith, text-ends part _ _ _ _ (p .put-answer .ensures), digits-few part))
@@ -25,10 +24,6 @@ pub put-answer-spec : {M : Type 1} → statement M
 put-answer-spec =
     tie.close
     (tie.spec
-    (λ c. search needs)
-    (λ c. search needs)
-    (λ c. search needs)
-    (λ c. search needs)
     (λ c. search needs)
     (λ c κs. search needs)
     (λ c κs. search needs)

@@ -3,6 +3,7 @@ use borrow.Author.Needs.{needs}
 use mathlib.Core.Path.{refl, sym, ap}
 use lib.ListN.{getD}
 use Rattle.map.specs.Map.{partOf}
+use Rattle.map.proofs.Onward.{known-small}
 use Rattle.registers.proofs.Kept.{kept-written}
 use Rattle.device_rules.specs.Device.{State, out, byteIn}
 use Rattle.device_rules.specs.declared.Answer.the-variants.{Ack}
@@ -10,7 +11,6 @@ use Rattle.device_rules.proofs.Stepping.{same-state}
 use Rattle.words.specs.Words.{coreIn, interruptIn}
 use Rattle.words.proofs.Sound.{mapped}
 use Rattle.words.proofs.Images.{file-length}
-use Rattle.words_rows.proofs.Taken.{known-small, next-of, next-known}
 use Rattle.words_state.proofs.Left.{holds-pointer}
 use Rattle.words_bus.proofs.byte_filling.Statement.{statement}
 use Rattle.words_bus.proofs.byte_filling.Tie as tie
@@ -18,15 +18,16 @@ use Rattle.words_bus.proofs.byte_filling.Tie as tie
 returns : tie.Need-returns
 unfolding byteIn
 returns c =
-    let a = c .before .before .before .args in
+    let next = c .before .before in
+    let a = next .before .before .args in
     let w = a .words .now in
     let n = getD w 21 0 in
     λ k packed bus e.
-    let hn = known-small (a .row) k n (packed .pointer-known) e in
-    let q = next-of (a .row) k n (packed .pointer-known) e (c .successor .ensures k n hn e) in
+    let hn = known-small (partOf k) n (packed .pointer-known) in
+    let q = next .next-number .ensures k packed e in
     let kept = kept-written (partOf k) (coreIn (partOf k) w) (interruptIn w) (packed .right) (mapped k) (file-length (partOf k) w) n hn (a .value) in
-    holds-pointer k w _ packed _ (c .before .write .ensures k packed e) Ack (c .successor .result)
-    (rw q (next-known (a .row) k n (packed .pointer-known) e)) (ap (λ (s : State). out Ack s) (same-state refl (sym kept) q bus refl))
+    holds-pointer k w _ packed _ (c .write .ensures k packed e) Ack (next .next-number .result)
+    (q .1) (ap (λ (s : State). out Ack s) (same-state refl (sym kept) (q .0) refl bus refl))
 
 pub byte-filling-spec : {M : Type 1} → statement M
 byte-filling-spec =

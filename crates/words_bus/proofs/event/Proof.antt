@@ -70,7 +70,7 @@ returns-8 c =
     let w = a .words .now in
     let kept = kept-levelled (partOf k) (coreIn (partOf k) w) (interruptIn w) (packed .right) (a .arg) in
     holds-left k w _ packed _ (c .set-levels .ensures k packed small) Nothing
-    (ap (out Nothing) (same-state refl (sym kept) refl refl refl)
+    (ap (out Nothing) (same-state refl (sym kept) refl refl refl refl)
     ∙ taken k (a .words .now) packed (a .kind) (a .arg) 4 (c .before .before .before .match .keys5) refl (lt-ltb (a .arg) (2 ^ partOf k .width) small))
 
 returns-9 : tie.Need-returns-9
