@@ -51,10 +51,13 @@ GROUPS34 = (
 # An event of a burst, and how many of them one call may be asked.
 EVENT_BYTES, MOST_EVENTS = 12, 512
 
-Image = namedtuple('Image', 'registers level reference held edge pointer bus choice status line')
+Image = namedtuple('Image', 'registers level reference held edge pointer bus choice status line mode')
 
 # INT's level, as the line is kept.
 ASSERTED, QUIET = 0, 1
+
+# How the pointer steps: the bit of a command byte above the register's number.
+IN_GROUP, OVER_MAP = 0, 1
 
 
 class Part:
@@ -117,6 +120,7 @@ class Device:
         ]
         self.pointer, self.bus, self.choice = image.pointer, image.bus, image.choice
         self.status, self.line = [bool(image.status >> i & 1) for i in range(part.pins)], image.line
+        self.mode = image.mode
         # A device loaded from a broken image answers each step with refusal 3.
         self.broken = self.image_broken(image)
         # The drives are worked out again only after something that can move them.
@@ -127,7 +131,7 @@ class Device:
         """A device at power-on, or refusal 2."""
         if cls.make_too_large(which, choice, levels):
             return ('refused', 2)
-        device = cls(which, Image([0] * 128, levels, 0, 0, 0, 0, IDLE, choice, 0, QUIET))
+        device = cls(which, Image([0] * 128, levels, 0, 0, 0, 0, IDLE, choice, 0, QUIET, IN_GROUP))
         device.reset()
         # What the reset made is judged as every image is, and not what it was made from.
         return cls(which, device.image())
@@ -139,7 +143,7 @@ class Device:
             pin_set(pin.reference for pin in self.pins),
             pin_set(pin.held for pin in self.pins),
             pin_set(pin.edge for pin in self.pins),
-            self.pointer, self.bus, self.choice, pin_set(self.status), self.line)
+            self.pointer, self.bus, self.choice, pin_set(self.status), self.line, self.mode)
 
     # Refusals.
 
@@ -157,7 +161,8 @@ class Device:
                 or any(self.unused_broken(n, value) or self.entry_broken(n, value)
                        for n, value in enumerate(image.registers) if value)
                 or self.status_broken(image.status)
-                or self.line_broken(image.line))
+                or self.line_broken(image.line)
+                or self.mode_broken(image.mode))
 
     def pointer_broken(self, pointer):
         """A pointer over 7Fh or at a reserved number."""
@@ -192,6 +197,10 @@ class Device:
     def line_broken(self, line):
         """A line other than the one that those status bits give."""
         return line != self.line_by(self.status_bits())
+
+    def mode_broken(self, mode):
+        """There are two ways to step."""
+        return mode > OVER_MAP
 
     def refusal(self, kind, arg):
         """The image first, then the kind, then the argument; None if the step is taken."""
@@ -288,7 +297,7 @@ class Device:
         return not self.part.wide and rest != 0
 
     def start(self):
-        """START opens a transaction from any state; the pointer stays."""
+        """START opens a transaction from any state; pointer and mode stay."""
         self.bus = OPENED
 
     def stop(self):
@@ -330,16 +339,21 @@ class Device:
         return 'ack'
 
     def command(self, value):
-        """The register a command byte names, None if reserved or above 7Fh."""
-        return value if value <= 0x7F and self.map[value] is not None else None
+        """The register that a command byte's low seven bits name, None if reserved."""
+        return value & 0x7F if self.map[value & 0x7F] is not None else None
+
+    def command_mode(self, value):
+        """How a command byte has the pointer step: its bit 7."""
+        return value >> 7
 
     def chosen_byte(self, value):
-        """A known command becomes the pointer; another leaves the pointer and deafens."""
+        """A known command becomes the pointer, and its bit 7 the mode; another leaves both and deafens."""
         number = self.command(value)
         if number is None:
             self.bus = DEAF
             return 'nak'
         self.pointer = number
+        self.mode = self.command_mode(value)
         self.bus = FILLING
         return 'ack'
 
@@ -370,9 +384,17 @@ class Device:
         return 'nak'
 
     def next_number(self, number):
+        """By the mode: over the whole map, or in the group."""
+        return self.next_over_map(number) if self.mode == OVER_MAP else self.next_in_group(number)
+
+    def next_in_group(self, number):
         """The next number of the group, from the last back to the first; a group of one stays."""
         group = self.map[number]
         return group.first if number == group.last else number + 1
+
+    def next_over_map(self, number):
+        """The next number that is not reserved, whatever its group; after the highest comes 00h."""
+        return next((following for following in range(number + 1, 128) if self.map[following]), 0x00)
 
     def fetch(self, acknowledged):
         """The byte at the pointer; it is formed before its pins are settled."""
@@ -441,9 +463,10 @@ class Device:
     # Resets.
 
     def reset(self):
-        """Defaults, pointer 00h, Idle, nothing held; levels and address stay."""
+        """Defaults, pointer 00h, steps in the group, Idle, nothing held; levels and address stay."""
         self.registers = self.reset_registers()
         self.pointer = self.reset_pointer()
+        self.mode = self.reset_mode()
         self.bus = self.reset_bus()
         for i in range(self.part.pins):
             self.reset_pin(i)
@@ -455,6 +478,9 @@ class Device:
 
     def reset_pointer(self):
         return 0x00
+
+    def reset_mode(self):
+        return IN_GROUP
 
     def reset_bus(self):
         return IDLE

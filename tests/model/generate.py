@@ -1,7 +1,7 @@
 """Seeded generators for either part: trace logs, probe, view and burst lines, the planner's starts and goals."""
 
-from device import (ASSERTED, BYTE, CALL, CHOSEN, EVENT_BYTES, FETCH, FILLING, LEVELS, MOST_EVENTS, OPENED, PARTS, QUIET,
-                    SENDING, Device, Image, kept_image)
+from device import (ASSERTED, BYTE, CALL, CHOSEN, EVENT_BYTES, FETCH, FILLING, IN_GROUP, LEVELS, MOST_EVENTS, OPENED, OVER_MAP,
+                    PARTS, QUIET, SENDING, Device, Image, kept_image)
 from probe import WIDTHS, image_fields
 
 
@@ -50,14 +50,16 @@ OUTPUT_READS = {'input port': 4, 'input status': 4, 'interrupt status': 1, 'outp
 
 # Writes, reads, and the weights of a log's acts in the order of `Log.go_on`.
 TEMPERS = (
-    (MIXED_WRITES, MIXED_READS, (30, 5, 0.3, 16, 20, 10, 6, 3, 5, 3, 1, 0.3)),
-    (MIXED_WRITES, MIXED_READS, (30, 5, 0.3, 16, 20, 10, 6, 3, 5, 3, 1, 0.3)),
-    (MARK_WRITES, MARK_READS, (20, 20, 0.3, 5, 20, 0.5, 0.3, 0.3, 0.3, 1, 2.5, 0.1)),
-    (MARK_WRITES, MARK_READS, (20, 20, 0.3, 5, 20, 0.5, 0.3, 0.3, 0.3, 1, 2.5, 0.1)),
-    (OUTPUT_WRITES, OUTPUT_READS, (30, 0, 0.3, 30, 15, 0.5, 0.3, 0.3, 0.3, 1, 0.3, 0.1)),
+    (MIXED_WRITES, MIXED_READS, (30, 5, 0.3, 16, 20, 10, 4, 6, 3, 5, 3, 1, 0.3)),
+    (MIXED_WRITES, MIXED_READS, (30, 5, 0.3, 16, 20, 10, 4, 6, 3, 5, 3, 1, 0.3)),
+    (MARK_WRITES, MARK_READS, (20, 20, 0.3, 5, 20, 0.5, 0.3, 0.3, 0.3, 0.3, 1, 2.5, 0.1)),
+    (MARK_WRITES, MARK_READS, (20, 20, 0.3, 5, 20, 0.5, 0.3, 0.3, 0.3, 0.3, 1, 2.5, 0.1)),
+    (OUTPUT_WRITES, OUTPUT_READS, (30, 0, 0.3, 30, 15, 0.5, 1, 0.3, 0.3, 0.3, 1, 0.3, 0.1)),
     # Mostly pins that turn from input to output and back.
-    (MARK_WRITES, MARK_READS, (2, 2, 20, 1, 2, 0.1, 0.1, 0.1, 0.1, 0.3, 0.3, 0.1)),
+    (MARK_WRITES, MARK_READS, (2, 2, 20, 1, 2, 0.1, 0.1, 0.1, 0.1, 0.1, 0.3, 0.3, 0.1)),
 )
+# How often a log's commands step over the whole map.
+OVER_MAP_SHARES = (0, 0, 0.2, 0.7)
 
 
 def weighted_group(rng, part, weights):
@@ -81,6 +83,7 @@ class Log:
         self.lines = []
         self.choice, self.levels_now = 0, 0
         self.writes, self.reads, self.weights = rng.choice(TEMPERS)
+        self.over_map = rng.choice(OVER_MAP_SHARES)
         self.be(which)
 
     def be(self, which):
@@ -117,6 +120,10 @@ class Log:
         self.choice = self.rng.randrange(4)
         self.levels_now = self.rng.choice((0, self.part.limit - 1, self.rng.randrange(self.part.limit)))
         self.lines.append(device_line(self.which, self.choice, self.levels_now))
+        # Before any command: where the pointer is, and how it steps.
+        if self.rng.random() < 0.1:
+            self.start(1)
+            self.lines += ['fetch\t1'] * (self.part.ports + 1)
 
     def later_device(self):
         """A new device, perhaps of the other part: levels in the digits of the one before are unreadable from then on."""
@@ -131,6 +138,20 @@ class Log:
     def start(self, read):
         self.event('start')
         self.event('byte\t%02x' % (0x40 + 2 * self.choice + read))
+
+    def command(self, number, mode=None):
+        """A command byte with the mode, or with one by chance; the mode."""
+        if mode is None:
+            mode = OVER_MAP if self.rng.random() < self.over_map else IN_GROUP
+        self.event('byte\t%02x' % (mode << 7 | number))
+        return mode
+
+    def following(self, number, mode):
+        """The number to which the pointer steps from it."""
+        numbers, group = KNOWN[self.which], self.part.map[number]
+        if mode == OVER_MAP:
+            return numbers[(numbers.index(number) + 1) % len(numbers)]
+        return group.first if number == group.last else number + 1
 
     def levels(self):
         """Mostly the pins dwelt on move, so that their marks come and go."""
@@ -175,27 +196,58 @@ class Log:
         self.start(0)
         number = self.register(weighted_group(rng, self.part, self.writes))
         if rng.random() < 0.06:
-            self.event('byte\t%02x' % rng.choice((rng.choice(RESERVED[self.which]), rng.randrange(128, 256), 0x80 | number)))
-            for _ in range(rng.randrange(3)):
-                self.event('byte\t%02x' % rng.randrange(256))
-            if rng.random() < 0.5:
-                self.start(1)
-                self.event('fetch\t1')
+            self.refused_command()
             return
-        self.event('byte\t%02x' % number)
+        mode = self.command(number)
         for _ in range(rng.choices((0, 1, 2, 3, 4, 7), (1, 12, 2, 2, 1, 1))[0]):
             self.event('byte\t%02x' % self.value(number))
-            group = self.part.map[number]
-            number = group.first if number == group.last else number + 1
+            number = self.following(number, mode)
         if rng.random() < 0.2:
             self.event('stop')
+
+    def refused_command(self):
+        """A reserved number with either mode; what is fetched after it shows the pointer of before, and how it steps."""
+        rng = self.rng
+        self.command(rng.choice(RESERVED[self.which]), rng.randrange(2))
+        for _ in range(rng.randrange(3)):
+            self.event('byte\t%02x' % rng.randrange(256))
+        if rng.random() < 0.5:
+            self.start(1)
+            for _ in range(rng.randint(1, 4)):
+                self.event('fetch\t1')
+
+    def walk(self):
+        """Over the end of a group, around the top or over the whole map, written or read, perhaps after a STOP or a reset."""
+        rng, all_numbers = self.rng, KNOWN[self.which]
+        number = rng.choice((rng.choice(self.part.groups).last, rng.choice(all_numbers[-4:]), rng.choice(all_numbers)))
+        count = rng.choices((2, 4, 9, len(all_numbers) + 1), (8, 8, 3, 1))[0]
+        self.start(0)
+        self.command(number, OVER_MAP)
+        between = rng.choice((None, None, 'stop', 'start', 'refused', 'reset', 'call'))
+        if rng.random() < 0.4:
+            for _ in range(count):
+                self.event('byte\t%02x' % self.value(number))
+                number = self.following(number, OVER_MAP)
+            count = 3
+        if between in ('start', 'stop', 'reset'):
+            self.lines.append(between)
+        elif between == 'refused':
+            self.start(0)
+            self.refused_command()
+        elif between == 'call':
+            self.general_call()
+        self.start(1)
+        for _ in range(count):
+            self.event('fetch\t1')
+        if rng.random() < 0.4:
+            self.event('fetch\t0')
 
     def read(self):
         """A read from a register just named, or from where the pointer stands."""
         rng = self.rng
         if rng.random() < 0.85:
             self.start(0)
-            self.event('byte\t%02x' % self.register(weighted_group(rng, self.part, self.reads)))
+            self.command(self.register(weighted_group(rng, self.part, self.reads)))
             if rng.random() < 0.1:
                 self.event('stop')
         self.start(1)
@@ -210,7 +262,7 @@ class Log:
     def look(self, group):
         """A fetch from the register of the group that holds a pin dwelt on."""
         self.start(0)
-        self.event('byte\t%02x' % self.register(group))
+        self.command(self.register(group))
         self.start(1)
         self.event('fetch\t%d' % self.rng.randrange(2))
 
@@ -224,7 +276,7 @@ class Log:
             self.levels()
         for number in numbers:
             self.start(0)
-            self.event('byte\t%02x' % number)
+            self.command(number)
             self.event('byte\t%02x' % self.value(number))
             if rng.random() < 0.6:
                 self.look(self.part.named['interrupt status'])
@@ -238,7 +290,7 @@ class Log:
         place, all_bits = (2 * (pin % 4), 3) if name == 'interrupt edge' else (pin % 8, 1)
         number = self.number(name, pin)
         self.start(0)
-        self.event('byte\t%02x' % number)
+        self.command(number)
         self.event('byte\t%02x' % (self.value(number) & ~(all_bits << place) | bits << place))
 
     def turn_around(self):
@@ -268,7 +320,7 @@ class Log:
         rng = self.rng
         number = rng.choice(KNOWN[self.which])
         self.start(0)
-        self.event('byte\t%02x' % number)
+        self.command(number)
         for _ in range(rng.randint(1, 3)):
             self.event('byte\t%02x' % rng.randrange(256))
         if rng.random() < 0.2:
@@ -276,7 +328,7 @@ class Log:
         # Without the number again, the read shows where the writes have left the pointer.
         if rng.random() < 0.6:
             self.start(0)
-            self.event('byte\t%02x' % number)
+            self.command(number)
         self.start(1)
         for _ in range(rng.randint(1, 3)):
             self.event('fetch\t1')
@@ -330,17 +382,17 @@ class Log:
         """Most logs begin with the pins dwelt on unmasked, else INT stays quiet for long."""
         for pin in self.focus:
             self.start(0)
-            self.event('byte\t%02x' % self.number('interrupt mask', pin))
+            self.command(self.number('interrupt mask', pin))
             self.event('byte\t%02x' % (0xFF & ~(1 << pin % 8)))
             if self.rng.random() < 0.5:
                 edge = self.number('interrupt edge', pin)
                 self.start(0)
-                self.event('byte\t%02x' % edge)
+                self.command(edge)
                 self.event('byte\t%02x' % self.value(edge))
 
     def go_on(self, length, weights):
         """Acts by chance until the log has so many lines; what an act left in the status is looked at now and then."""
-        acts = (self.write, self.hide_and_show, self.turn_around, self.read, self.levels, self.read_back,
+        acts = (self.write, self.hide_and_show, self.turn_around, self.read, self.levels, self.read_back, self.walk,
                 self.general_call, self.stray, self.other_address, self.garbage, self.hard_reset, self.later_device)
         while len(self.lines) < length:
             self.rng.choices(acts, weights)[0]()
@@ -366,7 +418,8 @@ GARBAGE = (
     'device34\t2\t000000', 'device34\t2\t00000000', 'device34\t2\t0000000000', 'device34\t2\t400000000',
     'device34\t0\tfffffffff', 'device34\t1\t800000000', 'device34\t00\t000000000', 'device34\t2\t00000000F',
     'device34\t2\t000000000\t', 'device34\t2\t000000000\r', 'device34\t\t000000000', 'device34 2 000000000',
-    'device\t2\t000000000', 'device24\t2\t000000', 'device340\t2\t000000000', 'device3\t2\t000000000',
+    'device\t2\t000000000', 'device\t0\t000000001', 'device\t3\t000ffffff', 'device24\t2\t000000',
+    'device340\t2\t000000000', 'device3\t2\t000000000',
     'Device34\t2\t000000000', 'device34\tA\t000000000', 'device\t34\t000000000', 'device\t2\tfffffffff',
 )
 # And those that the other part could, or that have more pins than digits tell.
@@ -440,8 +493,8 @@ def meant_event(rng, which, bus, choice):
         if bus == OPENED:
             arg = rng.choice((arg, 0x40 + 2 * choice, 0x41 + 2 * choice, 0x00, rng.randrange(0x3E, 0x4A), 0xF8, 0xF9))
         elif bus == CHOSEN:
-            known_number = rng.choice(KNOWN[which])
-            arg = rng.choice((arg, known_number, rng.choice(RESERVED[which]), 0x80 | known_number))
+            known_number, refused = rng.choice(KNOWN[which]), rng.choice(RESERVED[which]) | rng.choice((0, 0x80))
+            arg = rng.choice((arg, known_number, refused, 0x80 | known_number))
         elif bus == CALL:
             arg = rng.choice((arg, 0x06))
     elif kind == FETCH:
@@ -462,7 +515,7 @@ def over(rng, limit, top):
 def broken_image(rng, which, image):
     """The image with one of refusal 3's faults, and no other: status and line fit the rest, or only they do not."""
     part, registers = PARTS[which], list(image.registers)
-    way = rng.randrange(13)
+    way = rng.randrange(14)
     if way == 0:
         return image._replace(pointer=rng.choice(RESERVED[which]))
     if way == 1:
@@ -473,7 +526,7 @@ def broken_image(rng, which, image):
         return image._replace(choice=over(rng, 4, 256))
     if way == 4:
         name = rng.choice(('level', 'reference', 'held', 'edge'))
-        return kept_image(which, image._replace(**{name: over(rng, part.limit, 1 << 64)}))
+        return kept_image(which, image._replace(**{name: rng.choice((part.limit, over(rng, part.limit, 1 << 64)))}))
     if way == 5:
         number = rng.choice(PARTLY_STORED[which] + [part.port_kind])
         unused = 0xFF & ~part.bits[number]
@@ -485,8 +538,10 @@ def broken_image(rng, which, image):
     elif way == 7:
         group = rng.choice([group for group in part.groups if not group.stored])
         registers[rng.choice((group.first, group.last, part.clear, 0x77, 0x7F))] = rng.randrange(1, 256)
+    elif way == 8:
+        return image._replace(mode=rng.choice((over(rng, 2, 256), 0x80 | rng.randrange(2))))
     else:
-        return wrongly_kept(rng, which, image, way - 8)
+        return wrongly_kept(rng, which, image, way - 9)
     # Bits that are cleared may move status and line.
     return kept_image(which, image._replace(registers=tuple(registers)))
 
@@ -530,8 +585,8 @@ def spoiled_line(rng, line):
     elif way == 7:
         return rng.choice((b'', b'\t', b'start', b'0' * len(line), b'0' * 5000))
     elif way == 8:
-        # There is one form: an image without status and line is none.
-        del fields[8:10]
+        # There is one form: an image without the mode is none, nor one without status and line too.
+        del fields[rng.choice((8, 10)):11]
     else:
         fields[place] = b''
     return b'\t'.join(fields)
@@ -555,7 +610,7 @@ def sound_image(rng, which, pointer, bus):
         unmask_few(which, registers, focus[:rng.randint(1, 3)])
     return kept_image(which, Image(tuple(registers),
                                    *(random_marks(rng, which, focus) for _ in range(4)),
-                                   pointer, bus, rng.randrange(4), 0, QUIET))
+                                   pointer, bus, rng.randrange(4), 0, QUIET, rng.randrange(2)))
 
 
 def argument_limits(which):
@@ -574,6 +629,8 @@ def image_line(rng, which):
     if bus == SENDING and rng.random() < 0.6:
         group = named[rng.choice(('input port', 'input status', 'interrupt status'))]
         number = rng.randint(group.first, group.last)
+    if rng.random() < 0.15:
+        number = rng.choice((rng.choice(PARTS[which].groups).last, KNOWN[which][-1]))
     image = sound_image(rng, which, number, bus)
     kind, arg = meant_event(rng, which, bus, image.choice)
     if rng.random() < 0.16:

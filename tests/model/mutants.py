@@ -3,8 +3,8 @@
 A mutant of the device is tried on each part that it is about, the other part being right: on both, if it does not say.
 """
 
-from device import (ARMED, ASSERTED, BYTE, CALL, CHOSEN, DEAF, EVENT_BYTES, FETCH, FILLING, IDLE, LEVELS, MOST_EVENTS,
-                    OPENED, PARTS, QUIET, SENDING, Device, Part, Pin, pin_set)
+from device import (ARMED, ASSERTED, BYTE, CALL, CHOSEN, DEAF, EVENT_BYTES, FETCH, FILLING, IDLE, IN_GROUP, LEVELS, MOST_EVENTS,
+                    OPENED, OVER_MAP, PARTS, QUIET, RESET, SENDING, Device, Part, Pin, pin_set)
 from judge import Planner
 from trace import Session, answer_line
 
@@ -30,6 +30,7 @@ ONLY_BY_IMAGES = frozenset('''
     StatusJudgedAsSomeOrNone MissingStatusBitPasses ExtraStatusBitPasses StatusPastThePinsPasses LineJudgedByLowestBit
     LevelsLimitOf32Bits LevelsLimitOf36 LevelLimitOf36 ReferenceLimitOf36 HeldLimitOf24 HeldLimitOf36 EdgeLimitOf24
     EdgeLimitOf36 PortKindLimitOf24 PortKindLimitNone LastPortUnjudged PointersOf24
+    ModeTwoPasses ModeUnjudged ModeOneFails ModeJudgedByTopBit ModeNotTold ModeNotTaken
 '''.split())
 
 # The mutants of what a host is told when it asks, and of when it is refused: no event asks.
@@ -50,7 +51,7 @@ ONLY_BY_BURSTS = frozenset('''
     EventWordsHighestFirst EventOfEightBytes ArgumentLowHalfOnly
     Burst513Passes Burst512Fails BurstGivenOver512Fails BurstRoomOneShortPasses BurstRoomForAllGiven
     BurstPartOfEventPasses BurstLessGivenPasses BurstEightAfterThree BurstEightTellsNone BurstOfNoneOnBrokenFails
-    BurstOfNoneTellsNoCount BurstLeavesStatus BurstLeavesLine
+    BurstOfNoneTellsNoCount BurstLeavesStatus BurstLeavesLine BurstLeavesMode
 '''.split())
 
 MUTANTS = []
@@ -354,7 +355,7 @@ class EntriesOf24(Device):
 @mutant_on(34)
 class CommandsOf24(Device):
     def command(self, value):
-        return value if value <= 0x7F and PARTS[24].map[value] is not None else None
+        return super().command(value) if PARTS[24].map[value & 0x7F] is not None else None
 
 
 @mutant_on(34)
@@ -1583,18 +1584,9 @@ class ReservedKeepsChosen(Device):
 
 
 @mutant
-class TopBitOfCommandDropped(Device):
-    def command(self, value):
-        return super().command(value & 0x7F)
-
-
-@mutant
 class PointerLeavesGroup(Device):
-    def next_number(self, number):
-        number = (number + 1) % 128
-        while self.map[number] is None:
-            number = (number + 1) % 128
-        return number
+    def next_in_group(self, number):
+        return self.next_over_map(number)
 
 
 @mutant
@@ -1605,15 +1597,15 @@ class PointerStays(Device):
 
 @mutant
 class PointerStopsAtLast(Device):
-    def next_number(self, number):
+    def next_in_group(self, number):
         return min(number + 1, self.map[number].last)
 
 
 @mutant
 class GroupOfOneSteps(Device):
-    def next_number(self, number):
+    def next_in_group(self, number):
         group = self.map[number]
-        return self.part.edge if group.name == 'output port kind' else super().next_number(number)
+        return self.part.edge if group.name == 'output port kind' else super().next_in_group(number)
 
 
 @mutant
@@ -1734,6 +1726,368 @@ class IdleByteDeafens(Device):
 class UnheardAcknowledged(Device):
     def unheard_byte(self, value):
         return 'ack'
+
+
+# Steps over the whole map, and the mode that says so.
+
+@mutant
+class TopBitOfCommandDropped(Device):
+    """Any command that names a register is taken, but none steps over the map."""
+
+    def command_mode(self, value):
+        return IN_GROUP
+
+
+@mutant
+class TopBitOfCommandRefused(Device):
+    """A command above 7Fh is no register's."""
+
+    def command(self, value):
+        return None if value > 0x7F else super().command(value)
+
+
+@mutant
+class ModeUpsideDown(Device):
+    def command_mode(self, value):
+        return 1 - super().command_mode(value)
+
+
+@mutant
+class ModeOnlySet(Device):
+    """Once a command has set it, only a reset clears it."""
+
+    def command_mode(self, value):
+        return self.mode | super().command_mode(value)
+
+
+@mutant
+class ModeAlwaysSet(Device):
+    def command_mode(self, value):
+        return OVER_MAP
+
+
+def refused_mode(name, mode):
+    """A mutant in which a command that is not acknowledged leaves the pointer alone, but not the mode."""
+    def chosen_byte(self, value):
+        answer = Device.chosen_byte(self, value)
+        if answer == 'nak':
+            self.mode = mode(value)
+        return answer
+    mutant(type(name, (Device,), {'chosen_byte': chosen_byte}))
+
+
+refused_mode('ModeOfRefusedCommandTaken', lambda value: value >> 7)
+refused_mode('ModeClearedByRefusedCommand', lambda value: IN_GROUP)
+
+
+@mutant
+class ReservedAboveTakenAsNext(Device):
+    """With bit 7, a reserved number stands for the next that is not."""
+
+    def command(self, value):
+        number = super().command(value)
+        return self.next_over_map(value & 0x7F) if number is None and value > 0x7F else number
+
+
+@mutant
+class ModeClearedByStart(Device):
+    def start(self):
+        super().start()
+        self.mode = IN_GROUP
+
+
+@mutant
+class ModeClearedByStop(Device):
+    def stop(self):
+        super().stop()
+        self.mode = IN_GROUP
+
+
+@mutant
+class ModeClearedByReadAddress(Device):
+    """A read steps in the group, whatever the command before it said."""
+
+    def opened_byte(self, value):
+        answer = super().opened_byte(value)
+        if self.bus == SENDING:
+            self.mode = IN_GROUP
+        return answer
+
+
+@mutant
+class ModeClearedByLastFetch(Device):
+    def after_fetch(self, acknowledged):
+        super().after_fetch(acknowledged)
+        if not acknowledged:
+            self.mode = IN_GROUP
+
+
+@mutant
+class ModeClearedByLevels(Device):
+    def levels(self, new):
+        super().levels(new)
+        self.mode = IN_GROUP
+
+
+@mutant
+class ModeClearedAtTop(Device):
+    """A walk that comes to 00h again goes on in its group."""
+
+    def next_over_map(self, number):
+        following = super().next_over_map(number)
+        if following == 0x00:
+            self.mode = IN_GROUP
+        return following
+
+
+@mutant
+class HardwareResetKeepsMode(Device):
+    def step(self, kind, arg):
+        mode = self.mode
+        answer = super().step(kind, arg)
+        if kind == RESET:
+            self.mode = mode
+        return answer
+
+
+@mutant
+class SoftwareResetKeepsMode(Device):
+    def stop(self):
+        mode = self.mode
+        super().stop()
+        self.mode = mode
+
+
+@mutant
+class ResetKeepsMode(Device):
+    def reset_mode(self):
+        return self.mode
+
+
+@mutant
+class ResetSetsMode(Device):
+    """At power-on too."""
+
+    def reset_mode(self):
+        return OVER_MAP
+
+
+@mutant
+class PowerOnSetsMode(Device):
+    @classmethod
+    def make(cls, which, choice, levels):
+        made = super().make(which, choice, levels)
+        return made if isinstance(made, tuple) else cls(which, made.image()._replace(mode=OVER_MAP))
+
+
+@mutant
+class ReservedNotSkipped(Device):
+    """Every number up to 7Fh is passed; a reserved one takes a byte and shows 00h."""
+
+    def next_over_map(self, number):
+        return (number + 1) % 128
+
+    def next_number(self, number):
+        return super().next_number(number) if self.map[number] or self.mode == OVER_MAP else 0x00
+
+    def write(self, number, value):
+        if self.map[number]:
+            super().write(number, value)
+
+    def byte_at(self, number):
+        return super().byte_at(number) if self.map[number] else 0x00
+
+    def settled_by_fetch(self, number, acknowledged):
+        return super().settled_by_fetch(number, acknowledged) if self.map[number] else ()
+
+
+@mutant
+class WalkStaysInGroupOfOne(Device):
+    def next_over_map(self, number):
+        group = self.map[number]
+        return number if group.first == group.last else super().next_over_map(number)
+
+
+@mutant
+class WalkOfGroupFirsts(Device):
+    """From the last of a group to the next group but one."""
+
+    def next_over_map(self, number):
+        following = super().next_over_map(number)
+        group = self.map[number]
+        return super().next_over_map(self.map[following].last) if number == group.last and following else following
+
+
+@mutant
+class WalkStopsAtTop(Device):
+    def next_over_map(self, number):
+        return super().next_over_map(number) or number
+
+
+@mutant
+class TopGoesToItsGroup(Device):
+    def next_over_map(self, number):
+        return super().next_over_map(number) or self.map[number].first
+
+
+@mutant
+class TopGoesToOutputs(Device):
+    """Past the registers that take no write."""
+
+    def next_over_map(self, number):
+        return super().next_over_map(number) or self.part.output
+
+
+def walk_without(name, left_out):
+    """A mutant whose walk leaves some groups out, as those are that it cannot write or read."""
+    def next_over_map(self, number):
+        for _ in range(128):
+            number = Device.next_over_map(self, number)
+            if self.map[number].name not in left_out:
+                break
+        return number
+    mutant(type(name, (Device,), {'next_over_map': next_over_map}))
+
+
+walk_without('WalkSkipsReadOnly', ('input port', 'interrupt status', 'input status'))
+walk_without('WalkSkipsClear', ('interrupt clear',))
+walk_without('WalkSkipsPortKind', ('output port kind',))
+
+
+@mutant
+class WalkUpwardsOnlyToHalf(Device):
+    """The walk ends with the registers of the lower half."""
+
+    def next_over_map(self, number):
+        following = super().next_over_map(number)
+        return 0x00 if number < 0x20 <= following else following
+
+
+@mutant_on(34)
+class WalkOf24(Device):
+    def next_over_map(self, number):
+        following = super().next_over_map(number)
+        while following and PARTS[24].map[following] is None:
+            following = super().next_over_map(following)
+        return following
+
+
+@mutant
+class ReadWalksInGroup(Device):
+    def after_fetch(self, acknowledged):
+        before = self.pointer
+        super().after_fetch(acknowledged)
+        if acknowledged:
+            self.pointer = self.next_in_group(before)
+
+
+@mutant
+class WriteWalksInGroup(Device):
+    def filling_byte(self, value):
+        before = self.pointer
+        answer = super().filling_byte(value)
+        self.pointer = self.next_in_group(before)
+        return answer
+
+
+@mutant
+class LastFetchOfWalkSteps(Device):
+    def after_fetch(self, acknowledged):
+        super().after_fetch(acknowledged)
+        if not acknowledged and self.mode == OVER_MAP:
+            self.pointer = self.next_number(self.pointer)
+
+
+@mutant
+class WalkSettlesNothing(Device):
+    def settled_by_fetch(self, number, acknowledged):
+        return () if self.mode == OVER_MAP else super().settled_by_fetch(number, acknowledged)
+
+
+@mutant
+class WalkSettlesAllPorts(Device):
+    """A fetch of an input port settles every pin if it steps over the map."""
+
+    def settled_by_fetch(self, number, acknowledged):
+        settled = super().settled_by_fetch(number, acknowledged)
+        return range(self.part.pins) if settled and self.mode == OVER_MAP else settled
+
+
+@mutant
+class WalkClearsNothing(Device):
+    def clear_written(self, i, new):
+        if self.mode == IN_GROUP:
+            super().clear_written(i, new)
+
+
+@mutant
+class WalkWritesOnlyFirst(Device):
+    """After the first data byte of a walk the others are acknowledged and dropped."""
+
+    begun = False
+
+    def chosen_byte(self, value):
+        self.begun = False
+        return super().chosen_byte(value)
+
+    def write(self, number, value):
+        if not (self.begun and self.mode == OVER_MAP):
+            super().write(number, value)
+        self.begun = True
+
+
+@mutant
+class ModeSetByData(Device):
+    """Bit 7 of a data byte is taken for a command's."""
+
+    def filling_byte(self, value):
+        answer = super().filling_byte(value)
+        self.mode |= value >> 7
+        return answer
+
+
+@mutant
+class ModeTwoPasses(Device):
+    def mode_broken(self, mode):
+        return mode > 2
+
+
+@mutant
+class ModeUnjudged(Device):
+    def mode_broken(self, mode):
+        return False
+
+
+@mutant
+class ModeOneFails(Device):
+    def mode_broken(self, mode):
+        return mode > 0
+
+
+@mutant
+class ModeJudgedByTopBit(Device):
+    """As a command byte has it."""
+
+    def mode_broken(self, mode):
+        return mode & 0x7F > 1
+
+
+@mutant
+class ModeNotTold(Device):
+    """In an image it is always 0."""
+
+    def image(self):
+        return super().image()._replace(mode=IN_GROUP)
+
+
+@mutant
+class ModeNotTaken(Device):
+    """An image's mode is judged and dropped."""
+
+    def __init__(self, which, image):
+        super().__init__(which, image)
+        if not self.broken:
+            self.mode = IN_GROUP
 
 
 # The file.
@@ -2303,6 +2657,17 @@ class BurstLeavesLine(Device):
         before = self.line
         told = super().burst(data, asked, room)
         self.line = before
+        return told
+
+
+@mutant
+class BurstLeavesMode(Device):
+    """Events step as the commands before them say, but the mode after a burst is that before it."""
+
+    def burst(self, data, asked, room):
+        before = self.mode
+        told = super().burst(data, asked, room)
+        self.mode = before
         return told
 
 

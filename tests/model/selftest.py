@@ -11,8 +11,8 @@ import judge
 import probe
 import trace
 import views
-from device import (ARMED, ASSERTED, BYTE, CALL, DEAF, FETCH, FILLING, IDLE, LEVELS, OPENED, PARTS, QUIET, RESET, SENDING,
-                    START, STOP, Device, kept_image, pin_set)
+from device import (ARMED, ASSERTED, BYTE, CALL, DEAF, FETCH, FILLING, IDLE, IN_GROUP, LEVELS, OPENED, OVER_MAP, PARTS,
+                    QUIET, RESET, SENDING, START, STOP, Device, kept_image, pin_set)
 
 EXAMPLES = Path(__file__).resolve().parents[2] / 'examples'
 
@@ -57,10 +57,10 @@ class Bench:
         assert self.device.step(START, 0) == '-'
         assert self.device.step(BYTE, 2 * (0x20 + self.device.choice) + read) == 'ack'
 
-    def point(self, number):
+    def point(self, number, mode=IN_GROUP):
         """The pointer to a register by the part's own number."""
         self.address()
-        assert self.device.step(BYTE, number) == 'ack'
+        assert self.device.step(BYTE, mode << 7 | number) == 'ack'
 
     def write(self, number, *values):
         self.point(numbered(self.which, number, self.port))
@@ -91,11 +91,16 @@ class Bench:
         return image._replace(**{name: getattr(image, name) >> 8 * self.port
                                  for name in ('level', 'reference', 'held', 'edge', 'status')})
 
-    def pointer_after(self, number):
-        """By the part's own numbers."""
-        self.point(number)
+    def pointer_after(self, number, mode=IN_GROUP):
+        """By the part's own numbers, after a write and after a fetch."""
+        self.point(number, mode)
         assert self.device.step(BYTE, 0) == 'ack'
-        return self.device.pointer
+        written = self.device.pointer
+        self.point(number, mode)
+        self.address(1)
+        self.device.step(FETCH, 1)
+        assert self.device.pointer == written and self.device.mode == mode
+        return written
 
 
 def test_worked_example():
@@ -200,6 +205,148 @@ def test_pointer():
         bench.address(1)
         bench.device.step(FETCH, 1)
         assert (bench.device.pointer, bench.device.bus) == (latch + 1, SENDING)
+
+
+# Over the ends of groups, from groups of one, around the top.
+WALKS = {
+    24: ((0x00, 0x01), (0x01, 0x02), (0x02, 0x04), (0x06, 0x08), (0x0A, 0x0C), (0x0E, 0x40), (0x45, 0x48), (0x4A, 0x4C),
+         (0x4E, 0x50), (0x52, 0x54), (0x56, 0x58), (0x5A, 0x5C), (0x5C, 0x60), (0x65, 0x68), (0x6A, 0x6C), (0x6E, 0x70),
+         (0x72, 0x74), (0x74, 0x75), (0x75, 0x76), (0x76, 0x00)),
+    34: ((0x00, 0x01), (0x04, 0x05), (0x09, 0x0A), (0x0E, 0x0F), (0x13, 0x30), (0x38, 0x3A), (0x3E, 0x3F), (0x43, 0x44),
+         (0x48, 0x49), (0x4D, 0x4E), (0x52, 0x53), (0x53, 0x54), (0x5C, 0x5E), (0x62, 0x63), (0x67, 0x68), (0x6C, 0x6D),
+         (0x6E, 0x6F), (0x6F, 0x00)),
+}
+
+
+def test_walks():
+    for which, points in WALKS.items():
+        bench = Bench(which)
+        for number, after in points:
+            assert bench.pointer_after(number, OVER_MAP) == after, (which, number)
+        # A fetch that is not acknowledged does not step.
+        bench.point(0x02, OVER_MAP)
+        bench.address(1)
+        bench.device.step(FETCH, 0)
+        assert (bench.device.pointer, bench.device.bus) == (0x02, DEAF)
+
+
+def test_a_whole_round():
+    """As many bytes as there are numbers, read or written, come back to where they began, by all of them once."""
+    for which, count in ((24, 52), (34, 82)):
+        for first in generate.KNOWN[which]:
+            for event in ((BYTE, 0x00), (FETCH, 1)):
+                bench, passed = Bench(which), []
+                bench.point(first, OVER_MAP)
+                if event[0] == FETCH:
+                    bench.address(1)
+                for _ in range(count):
+                    passed.append(bench.device.pointer)
+                    bench.device.step(*event)
+                assert bench.device.pointer == first and sorted(passed) == generate.KNOWN[which], (which, first)
+
+
+def test_mode_of_commands():
+    """An acknowledged command's bit 7 is the mode; one that is not acknowledged changes neither pointer nor mode."""
+    for which in PARTS:
+        for mode in (IN_GROUP, OVER_MAP):
+            for value in range(256):
+                bench = Bench(which)
+                bench.point(0x01, mode)
+                bench.address()
+                known = PARTS[which].map[value & 0x7F] is not None
+                assert bench.device.step(BYTE, value) == ('ack' if known else 'nak'), (which, value)
+                wanted = (value & 0x7F, value >> 7, FILLING) if known else (0x01, mode, DEAF)
+                assert (bench.device.pointer, bench.device.mode, bench.device.bus) == wanted, (which, value)
+    bench = Bench()
+    bench.point(0x02, OVER_MAP)
+    bench.address()
+    assert bench.device.step(BYTE, 0x83) == 'nak'
+    bench.address(1)
+    bench.device.step(FETCH, 1)
+    assert (bench.device.pointer, bench.device.mode) == (0x04, OVER_MAP)
+
+
+def test_mode_outlives_the_bus():
+    """START, STOP, other addresses, data, fetches and levels leave it; the next command has its own."""
+    for which in PARTS:
+        bench = Bench(which)
+        bench.point(0x02, OVER_MAP)
+        for event in ((STOP, 0), (START, 0), (BYTE, 0x50), (BYTE, 0x00), (START, 0), (STOP, 0), (LEVELS, 5), (FETCH, 1),
+                      (START, 0), (BYTE, 0x00), (BYTE, 0x00), (STOP, 0), (START, 0), (BYTE, 0x41)):
+            bench.device.step(*event)
+            assert (bench.device.pointer, bench.device.mode) == (0x02, OVER_MAP), event
+        assert bench.device.step(FETCH, 1) == 0x00 and bench.device.pointer == bench.device.next_over_map(0x02)
+        # Bit 7 clear again: steps as ever.
+        bench.point(PARTS[which].port_kind)
+        bench.device.step(BYTE, 0x00)
+        assert (bench.device.pointer, bench.device.mode) == (PARTS[which].port_kind, IN_GROUP)
+
+
+def test_resets_clear_the_mode():
+    resets = (((RESET, 0),), ((START, 0), (RESET, 7)), ((START, 0), (BYTE, 0x00), (BYTE, 0x06), (STOP, 0)))
+    for which in PARTS:
+        assert Device.make(which, 0, 0).image().mode == IN_GROUP
+        for events in resets:
+            bench = Bench(which)
+            bench.point(0x04, OVER_MAP)
+            for event in events:
+                bench.device.step(*event)
+            assert (bench.device.pointer, bench.device.mode, bench.device.bus) == (0x00, IN_GROUP, IDLE)
+            bench.address(1)
+            for _ in range(PARTS[which].ports):
+                bench.device.step(FETCH, 1)
+            assert bench.device.pointer == 0x00
+        # A call that is spoiled resets nothing.
+        bench = Bench(which)
+        bench.point(0x04, OVER_MAP)
+        for event in ((START, 0), (BYTE, 0x00), (BYTE, 0x06), (BYTE, 0x06), (STOP, 0)):
+            bench.device.step(*event)
+        assert (bench.device.pointer, bench.device.mode) == (0x04, OVER_MAP)
+
+
+def rung(which):
+    """Every pin unmasked and away from its reference."""
+    bench = Bench(which)
+    bench.point(PARTS[which].mask)
+    for _ in range(PARTS[which].ports):
+        bench.device.step(BYTE, 0x00)
+    bench.device.step(LEVELS, PARTS[which].limit - 1)
+    return bench
+
+
+def test_a_walk_of_reads_settles_its_ports():
+    """Each input port that is fetched is settled and no other; input status, on the way, settles none."""
+    for which, part in PARTS.items():
+        bench, every = rung(which), part.limit - 1
+        bench.point(part.named['input status'].first, OVER_MAP)
+        bench.address(1)
+        while bench.device.pointer != 0x00:
+            bench.device.step(FETCH, 1)
+            assert bench.device.image().status == every
+        for port in range(part.ports):
+            bench.device.step(FETCH, 1)
+            assert bench.device.image().status == every & ~((1 << 8 * (port + 1)) - 1)
+        assert bench.quiet()
+
+
+def test_a_walk_of_writes_passes_every_register():
+    """Read-only ones take nothing, clear ones settle by their bits, the others are stored."""
+    for which, part in PARTS.items():
+        bench = rung(which)
+        registers, clear = bench.device.image().registers, part.named['interrupt clear']
+        bench.point(part.named['interrupt status'].first, OVER_MAP)
+        written = {}
+        while bench.device.pointer != 0x00:
+            number = bench.device.pointer
+            value = 0x01 if part.map[number] is clear else 0x00 if part.map[number].name == 'interrupt edge' else 0xA5
+            assert bench.device.step(BYTE, value) == 'ack'
+            written[number] = value
+        image = bench.device.image()
+        for number in range(128):
+            wanted = written.get(number, registers[number]) & part.stored[number]
+            assert image.registers[number] == wanted, (which, number)
+        lowest = sum(1 << 8 * port for port in range(part.ports))
+        assert image.status == part.limit - 1 & ~lowest and image.reference == lowest
 
 
 def test_the_map_of_the_sister():
@@ -350,7 +497,7 @@ def test_addresses_and_commands():
         assert len(known) == count and 0x77 not in known and (0x03 in known) == (which == 34)
         for value in range(256):
             bench.address()
-            assert bench.device.step(BYTE, value) == ('ack' if value in known else 'nak')
+            assert bench.device.step(BYTE, value) == ('ack' if value & 0x7F in known else 'nak')
         assert bench.device.pointer == last
 
 
@@ -514,7 +661,8 @@ def broken_images(which, sound):
             *(kept_image(which, sound._replace(**{name: limit})) for name in ('level', 'reference', 'held', 'edge')),
             *(kept_image(which, with_entry(sound, *entry)) for entry in WRONG_ENTRIES[which]),
             *(sound._replace(status=sound.status ^ 1 << i) for i in range(64)),
-            sound._replace(line=1 - sound.line), *(sound._replace(line=line) for line in (2, 3, 0x80, 0xFF)))
+            sound._replace(line=1 - sound.line), *(sound._replace(line=line) for line in (2, 3, 0x80, 0xFF)),
+            *(sound._replace(mode=mode) for mode in (2, 3, 0x80, 0x81, 0xFF)))
 
 
 def test_broken_images():
@@ -524,6 +672,7 @@ def test_broken_images():
             for kind, arg in ((START, 0), (6, 0), (BYTE, 256)):
                 assert Device(which, image).step(kind, arg) == ('refused', 3), (which, image)
         for image in (sound, sound._replace(bus=7), sound._replace(choice=3), sound._replace(edge=part.limit - 1),
+                      sound._replace(mode=OVER_MAP),
                       sound._replace(pointer=max(generate.KNOWN[which])),
                       *(with_entry(sound, *entry) for entry in RIGHT_ENTRIES[which])):
             assert Device(which, image).step(START, 0) == '-', (which, image)
@@ -738,9 +887,12 @@ def test_probe_reader():
         assert probe.run_lines(which, line) == probe.run_lines(which, line + b'\n') == answer
         assert probe.run_lines(which, b'') == b''
         fields = line.split(b'\t')
-        assert len(line) == 379 and len(fields) == 12 and fields[8:10] == [b'0' * 16, b'01']
-        # There is one form: an image without status and line is none.
-        assert probe.run_lines(which, b'\t'.join(fields[:8] + fields[10:])) == b'refused\t7\n'
+        assert len(line) == 382 and len(fields) == 13 and fields[8:11] == [b'0' * 16, b'01', b'00']
+        # There is one form: an image without the mode is none, nor one without status and line too.
+        for older in (8, 10):
+            assert probe.run_lines(which, b'\t'.join(fields[:older] + fields[11:])) == b'refused\t7\n'
+        for mode, told in ((b'01', answer[:-3] + b'01\n'), (b'02', b'refused\t3\n'), (b'ff', b'refused\t3\n')):
+            assert probe.run_lines(which, b'\t'.join(fields[:10] + [mode] + fields[11:])) == told
         for _ in range(200):
             assert probe.run_lines(which, generate.spoiled_line(rng, line) + b'\n') == b'refused\t7\n'
         # One part's image at power-on is broken for the other.
@@ -1003,7 +1155,8 @@ def faults_of(which, image):
         ('choice', device.choice_broken(image.choice)), ('pin sets', device.pin_sets_broken(image)),
         ('unused', any(device.unused_broken(n, image.registers[n]) for n in range(128))),
         ('entry', any(device.entry_broken(n, image.registers[n]) for n in range(128))),
-        ('status', device.status_broken(image.status)), ('line', device.line_broken(image.line))) if broken)
+        ('status', device.status_broken(image.status)), ('line', device.line_broken(image.line)),
+        ('mode', device.mode_broken(image.mode))) if broken)
 
 
 def test_broken_images_have_one_fault():
@@ -1020,7 +1173,7 @@ def test_broken_images_have_one_fault():
             unused |= {n for n in generate.PARTLY_STORED[which] if device.unused_broken(n, broken.registers[n])}
         assert found == {frozenset(names) for names in (
             ['pointer'], ['bus'], ['choice'], ['pin sets'], ['unused'], ['entry'], ['status'], ['line'],
-            ['status', 'line'])}
+            ['status', 'line'], ['mode'])}
         assert len(unused) > len(generate.PARTLY_STORED[which]) // 2
 
 
@@ -1030,7 +1183,7 @@ def test_generators():
     for which in PARTS:
         for _ in range(30):
             log = generate.trace_log(rng, which)
-            assert log.startswith(begins[which]) and log.endswith(b'\n') and 60 <= log.count(b'\n') <= 400
+            assert log.startswith(begins[which]) and log.endswith(b'\n') and 60 <= log.count(b'\n') <= 500
         assert generate.trace_log(random.Random(6), which) == generate.trace_log(random.Random(6), which)
         planner = judge.Planner(which)
         for _ in range(300):
