@@ -47,6 +47,7 @@ static void same_state(const struct ghixramel *ours, const struct peer *peer, si
     same(image.choice, peer->choice, "address choices", place);
     same(image.status, peer->status, "status sets", place);
     same(image.line, peer->line, "lines", place);
+    same(image.mode, peer->mode, "modes", place);
     if (memcmp(image.registers, peer->registers, sizeof peer->registers) != 0)
         differ("registers", place);
 }

@@ -2,7 +2,7 @@
 
 #include "peer.h"
 
-enum { GENERAL_CALL = 0x00, SOFTWARE_RESET = 0x06, OWN_ADDRESS = 0x40, OTHER_ADDRESS = 0x50, RESERVED = 0x78 };
+enum { GENERAL_CALL = 0x00, SOFTWARE_RESET = 0x06, OWN_ADDRESS = 0x40, OTHER_ADDRESS = 0x50, RESERVED = 0x78, OVER_MAP = 0x80 };
 enum { READS = 5, WITH_LEVELS = 3, TRANSACTIONS = 13 };
 
 #define COUNT(table) ((uint32_t)(sizeof(table) / sizeof *(table)))
@@ -65,7 +65,8 @@ static uint32_t address(struct mix *mix)
 
 static void put_command(struct mix *mix, uint32_t number)
 {
-    put(mix, PEER_BYTE, below(mix, 64) == 0 ? RESERVED : number);
+    uint32_t mode = below(mix, 8) == 0 ? OVER_MAP : 0;
+    put(mix, PEER_BYTE, mode | (below(mix, 64) == 0 ? RESERVED : number));
 }
 
 static void put_read(struct mix *mix)

@@ -3,7 +3,7 @@
  * Per hundred events: 18 START, 13 STOP, 52 bytes, 14 fetches, 3 levels, and one hardware reset in a thousand. That is
  * 13 transactions: 5 register reads (START, address, command, START, address, 2.8 fetches, STOP) and 8 writes (START,
  * address, command, 2.625 bytes of data, STOP). One transaction in 16 is another device's, one in 64 names a reserved
- * register, one write in 128 is the general call that resets. */
+ * register, one in 8 steps over the whole map, one write in 128 is the general call that resets. */
 #ifndef MIX_H
 #define MIX_H
 

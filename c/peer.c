@@ -6,6 +6,9 @@ enum { PINS = 24, ALL_PINS = (1 << PINS) - 1 };
 enum { IDLE, OPENED, CHOSEN, FILLING, SENDING, CALL, ARMED, DEAF };
 enum { BAD_KIND = 1, BAD_ARGUMENT = 2, BAD_IMAGE = 3 };
 enum { GENERAL_CALL = 0x00, SOFTWARE_RESET = 0x06, FIRST_ADDRESS = 0x20, STRAY_BYTE = 0xFF };
+enum { IN_GROUP, OVER_MAP, MODES };
+/* A command byte: the register's number, and above it the mode. */
+enum { NUMBER_BITS = 7, NUMBERS = 1 << NUMBER_BITS };
 
 /* First register of each group that the pins' rules read. */
 enum {
@@ -29,7 +32,7 @@ enum rule { RESERVED, PLAIN, INPUT_RULE, STATUS_RULE, INPUT_STATUS_RULE, CONFIGU
 #define THREE(first, value) TWO(first, value), [(first) + 2] = (value)
 #define SIX(first, value) THREE(first, value), THREE((first) + 3, value)
 
-/* A command byte above 7Fh counts as reserved, so the table has all bytes. */
+/* A pointer above 7Fh counts as reserved, so the table has all bytes. */
 static const uint8_t rules[256] = {
     THREE(0x00, INPUT_RULE),
     THREE(0x04, PLAIN), /* output */
@@ -60,15 +63,24 @@ static const uint8_t defaults[128] = {
     THREE(0x04, 0xFF), THREE(0x0C, 0xFF), SIX(0x40, 0xFF), THREE(0x50, 0xFF), THREE(0x54, 0xFF),
 };
 
-#define RING_OF_THREE(first) [first] = (first) + 1, [(first) + 1] = (first) + 2, [(first) + 2] = (first)
-#define RING_OF_SIX(first) \
-    [first] = (first) + 1, [(first) + 1] = (first) + 2, [(first) + 2] = (first) + 3, [(first) + 3] = (first) + 4, \
-    [(first) + 4] = (first) + 5, [(first) + 5] = (first)
+#define THREE_THEN(first, then) [first] = (first) + 1, [(first) + 1] = (first) + 2, [(first) + 2] = (then)
+#define SIX_THEN(first, then) THREE_THEN(first, (first) + 3), THREE_THEN((first) + 3, then)
+#define RING_OF_THREE(first) THREE_THEN(first, first)
+#define RING_OF_SIX(first) SIX_THEN(first, first)
 
-static const uint8_t successor[128] = {
-    RING_OF_THREE(0x00), RING_OF_THREE(0x04), RING_OF_THREE(0x08), RING_OF_THREE(0x0C), RING_OF_SIX(0x40),   RING_OF_THREE(0x48),
-    RING_OF_THREE(0x4C), RING_OF_THREE(0x50), RING_OF_THREE(0x54), RING_OF_THREE(0x58), [0x5C] = 0x5C,       RING_OF_SIX(0x60),
-    RING_OF_THREE(0x68), RING_OF_THREE(0x6C), RING_OF_THREE(0x70), [0x74] = 0x75,       [0x75] = 0x74,       [0x76] = 0x76,
+/* The number after each, by the mode. */
+static const uint8_t successor[MODES][NUMBERS] = {
+    [IN_GROUP] = {
+        RING_OF_THREE(0x00), RING_OF_THREE(0x04), RING_OF_THREE(0x08), RING_OF_THREE(0x0C), RING_OF_SIX(0x40),   RING_OF_THREE(0x48),
+        RING_OF_THREE(0x4C), RING_OF_THREE(0x50), RING_OF_THREE(0x54), RING_OF_THREE(0x58), [0x5C] = 0x5C,       RING_OF_SIX(0x60),
+        RING_OF_THREE(0x68), RING_OF_THREE(0x6C), RING_OF_THREE(0x70), [0x74] = 0x75,       [0x75] = 0x74,       [0x76] = 0x76,
+    },
+    [OVER_MAP] = {
+        THREE_THEN(0x00, 0x04), THREE_THEN(0x04, 0x08), THREE_THEN(0x08, 0x0C), THREE_THEN(0x0C, 0x40), SIX_THEN(0x40, 0x48),
+        THREE_THEN(0x48, 0x4C), THREE_THEN(0x4C, 0x50), THREE_THEN(0x50, 0x54), THREE_THEN(0x54, 0x58), THREE_THEN(0x58, 0x5C),
+        [0x5C] = 0x60,          SIX_THEN(0x60, 0x68),   THREE_THEN(0x68, 0x6C), THREE_THEN(0x6C, 0x70), THREE_THEN(0x70, 0x74),
+        [0x74] = 0x75,          [0x75] = 0x76,          [0x76] = 0x00,
+    },
 };
 
 /* The pins of the ports whose bits are set in the output port kind. */
@@ -142,6 +154,7 @@ OUT_OF_LINE void reset(struct peer *d)
 {
     memcpy(d->registers, defaults, sizeof d->registers);
     d->pointer = 0;
+    d->mode = IN_GROUP;
     d->bus = IDLE;
     settle(d, ALL_PINS);
 }
@@ -241,18 +254,26 @@ static uint8_t take_address(struct peer *d, uint32_t value)
     return turn_deaf(d);
 }
 
+/* One that is not acknowledged leaves pointer and mode. */
 static uint8_t take_command(struct peer *d, uint32_t value)
 {
-    if (rules[value] == RESERVED)
+    uint32_t number = value % NUMBERS;
+    if (rules[number] == RESERVED)
         return turn_deaf(d);
-    d->pointer = (uint8_t)value;
+    d->pointer = (uint8_t)number;
+    d->mode = (uint8_t)(value >> NUMBER_BITS);
     return acknowledge(d, FILLING);
+}
+
+static void step_pointer(struct peer *d)
+{
+    d->pointer = successor[d->mode][d->pointer];
 }
 
 static uint8_t take_data(struct peer *d, uint32_t value)
 {
     write_register(d, d->pointer, value);
-    d->pointer = successor[d->pointer];
+    step_pointer(d);
     return PEER_ACK;
 }
 
@@ -280,7 +301,7 @@ static uint8_t give_byte(struct peer *d, int acknowledged)
         return STRAY_BYTE;
     uint8_t shown = fetch_register(d, d->pointer);
     if (acknowledged)
-        d->pointer = successor[d->pointer];
+        step_pointer(d);
     else
         d->bus = DEAF;
     return shown;
@@ -323,7 +344,7 @@ static int file_broken(const uint8_t registers[128])
 static int image_broken(const struct peer *d)
 {
     return ((d->level | d->reference | d->held | d->edge) > ALL_PINS) | (rules[d->pointer] == RESERVED) | (d->bus > DEAF) |
-           (d->choice > 3) | file_broken(d->registers) | (d->status != status_bits(d)) | (d->line != (d->status == 0));
+           (d->choice > 3) | (d->mode > OVER_MAP) | file_broken(d->registers) | (d->status != status_bits(d)) | (d->line != (d->status == 0));
 }
 
 #endif

@@ -10,6 +10,7 @@ struct peer {
     uint8_t registers[128];                /* one byte for each command number */
     uint8_t pointer, bus, choice;
     uint8_t line; /* INT's level: 1 quiet, 0 asserted */
+    uint8_t mode; /* how the pointer steps: 0 in its group, 1 over the whole map */
 };
 
 enum { PEER_START, PEER_STOP, PEER_BYTE, PEER_FETCH, PEER_LEVELS, PEER_RESET };

@@ -1,9 +1,9 @@
 /* One step of the peer on a state image a line: registers, four pin sets, pointer, bus state, address choice, status, line,
- * kind and argument, in lowercase hex parted by tabs. Answered as the trace program does, then the image after. */
+ * mode, kind and argument, in lowercase hex parted by tabs. Answered as the trace program does, then the image after. */
 #include "image_text.h"
 #include "peer_text.h"
 
-enum { LINE_BYTES = 379, MOST_PROBE_BYTES = 400 };
+enum { LINE_BYTES = 382, MOST_PROBE_BYTES = 400 };
 
 struct probe {
     struct peer device;
@@ -31,13 +31,14 @@ static const uint8_t *bus_fields(const uint8_t *at, struct peer *device)
 
 static const uint8_t *kept_fields(const uint8_t *at, struct peer *device)
 {
-    uint64_t line = 0;
-    at = field(field(at, 16, &device->status), 2, &line);
+    uint64_t line = 0, mode = 0;
+    at = field(field(field(at, 16, &device->status), 2, &line), 2, &mode);
     device->line = (uint8_t)line;
+    device->mode = (uint8_t)mode;
     return at;
 }
 
-/* The fields have fixed widths, so a line of the right length with a tab after each of eleven fields has no room for more. */
+/* The fields have fixed widths, so a line of the right length with a tab after each of twelve fields has no room for more. */
 static int read_probe(const uint8_t *line, size_t length, struct probe *probe)
 {
     uint8_t text[LINE_BYTES + 1];
@@ -68,7 +69,8 @@ static uint8_t *put_image(uint8_t *to, const struct peer *device)
     to = put_hex(put_byte(to, '\t'), device->pointer, 2);
     to = put_hex(put_byte(to, '\t'), device->bus, 2);
     to = put_hex(put_byte(to, '\t'), device->choice, 2);
-    return put_hex(put_byte(put_set(to, device->status), '\t'), device->line, 2);
+    to = put_hex(put_byte(put_set(to, device->status), '\t'), device->line, 2);
+    return put_hex(put_byte(to, '\t'), device->mode, 2);
 }
 
 static uint8_t *put_step(uint8_t *to, struct probe *probe)
