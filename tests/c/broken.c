@@ -73,6 +73,9 @@ static void try_bus_numbers(const struct ghixramel_image *whole)
         image = *whole;
         image.choice = value;
         (value < 4 ? want_image_whole : want_image_broken)("address choice", value, &image);
+        image = *whole;
+        image.mode = value;
+        (value < 2 ? want_image_whole : want_image_broken)("mode", value, &image);
     }
 }
 
@@ -89,6 +92,9 @@ static void try_large_bus_numbers(const struct ghixramel_image *whole)
         image = *whole;
         image.choice |= (uint64_t)1 << bit;
         want_image_broken("address choice", image.choice, &image);
+        image = *whole;
+        image.mode |= (uint64_t)1 << bit;
+        want_image_broken("mode", image.mode, &image);
     }
 }
 

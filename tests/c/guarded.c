@@ -47,7 +47,7 @@ struct lent {
     uint8_t guard_3[GUARD];
     uint8_t registers[128];
     uint8_t guard_4[GUARD];
-    uint64_t rest[5]; /* pointer, bus state, address choice, status, line */
+    uint64_t rest[6]; /* pointer, bus state, address choice, status, line, mode */
     uint8_t guard_5[GUARD];
     struct ghixramel_image image;
     uint8_t guard_6[GUARD];
@@ -264,7 +264,7 @@ static void lend(const struct ghixramel *device, struct numbers with)
 
 static void lend_image(const struct ghixramel_image *image)
 {
-    const uint64_t rest[5] = {image->pointer, image->bus, image->choice, image->status, image->line};
+    const uint64_t rest[6] = {image->pointer, image->bus, image->choice, image->status, image->line, image->mode};
     memcpy(lent.pins, image->pins, sizeof lent.pins);
     memcpy(lent.registers, image->registers, sizeof lent.registers);
     memcpy(lent.rest, rest, sizeof lent.rest);

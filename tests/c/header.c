@@ -31,15 +31,21 @@ static int done_in_a_burst(struct ghixramel *device)
 
 static int carried(struct ghixramel *device)
 {
-    struct ghixramel_image image = {{0}, {0}, 0, 0, 0, 0, 0};
+    struct ghixramel_image image = {{0}, {0}, 0, 0, 0, 0, 0, 0};
     if (ghixramel_to_image(device, &image) != GHIXRAMEL_DONE || image.choice != 3 || image.registers[0x54] != 0xFF)
         return 0;
-    if (image.status != 0 || image.line != 1 || ghixramel_from_image(device, &image) != GHIXRAMEL_DONE)
+    if (image.status != 0 || image.line != 1 || image.mode != 0 || ghixramel_from_image(device, &image) != GHIXRAMEL_DONE)
         return 0;
     image.line = 0;
     if (ghixramel_from_image(device, &image) != GHIXRAMEL_BAD_IMAGE)
         return 0;
     image.line = 1;
+    image.mode = 2;
+    if (ghixramel_from_image(device, &image) != GHIXRAMEL_BAD_IMAGE)
+        return 0;
+    image.mode = 1;
+    if (ghixramel_from_image(device, &image) != GHIXRAMEL_DONE)
+        return 0;
     image.choice = 4;
     return ghixramel_from_image(device, &image) == GHIXRAMEL_BAD_IMAGE;
 }
@@ -55,7 +61,7 @@ static int planned(void)
 static int sister(void)
 {
     struct ghixramel device = {{0}};
-    struct ghixramel_image image = {{0}, {0}, 0, 0, 0, 0, 0};
+    struct ghixramel_image image = {{0}, {0}, 0, 0, 0, 0, 0, 0};
     uint8_t answer[2] = {0}, asserted[1] = {0}, shown[1] = {0}, answers[2] = {0};
     uint8_t levels[GHIXRAMEL_EVENT_BYTES] = {GHIXRAMEL_LEVELS, 0, 0, 0, 0, 0, 0, 0, 2, 0, 0, 0};
     uint8_t ends[GHIXRAMEL34_SETTING_BYTES] = {0}, buffer[GHIXRAMEL34_PLAN_BYTES] = {0};

@@ -82,6 +82,7 @@ struct ghixramel_image random_image(uint64_t *random)
     image.pointer = random_pointer(random);
     image.bus = random_below(random, 8);
     image.choice = random_below(random, 4);
+    image.mode = random_below(random, 2);
     return kept(image);
 }
 

@@ -16,6 +16,7 @@ static inline struct ghixramel_image image_of_peer(const struct peer *peer)
         .choice = peer->choice,
         .status = peer->status,
         .line = peer->line,
+        .mode = peer->mode,
     };
     memcpy(image.registers, peer->registers, sizeof image.registers);
     return image;
@@ -33,6 +34,7 @@ static inline struct peer peer_of_image(const struct ghixramel_image *image)
         .bus = (uint8_t)image->bus,
         .choice = (uint8_t)image->choice,
         .line = (uint8_t)image->line,
+        .mode = (uint8_t)image->mode,
     };
     memcpy(peer.registers, image->registers, sizeof peer.registers);
     return peer;

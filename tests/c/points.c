@@ -6,6 +6,8 @@
 
 enum { INPUT = 0x00 };
 enum { PIN_0 = 0x01, ALL_BUT_PIN_0 = 0xFE, WHOLE_PORT = 0xFF, RISING = 0x01, EITHER = 0x03 };
+/* A command byte's bit 7. */
+enum { OVER_MAP = 0x80 };
 
 static void worked_example(void)
 {
@@ -47,24 +49,109 @@ static void drive_points(void)
     want_drives(&device, PIN_0, 0);
 }
 
-static void pointer_after(uint32_t number, uint32_t wanted)
+static void want_pointer(const char *what, const struct ghixramel *device, uint32_t number, uint32_t bit_7)
 {
-    about("pointer after", number);
-    struct ghixramel device = device_with(0, 0);
-    begin_write(&device, number);
-    want("pointer after the command", number, image_of(&device).pointer);
-    want("answer to data", ACK, send_byte(&device, 0));
-    want("pointer after a write", wanted, image_of(&device).pointer);
-    begin_read(&device, number);
-    answer_to(&device, GHIXRAMEL_FETCH, 1);
-    want("pointer after a fetch", wanted, image_of(&device).pointer);
+    struct ghixramel_image image = image_of(device);
+    want(what, number, image.pointer);
+    want("mode", bit_7 / OVER_MAP, image.mode);
 }
 
+static void pointer_after(uint32_t number, uint32_t bit_7, uint32_t wanted)
+{
+    about("pointer after command", bit_7 | number);
+    struct ghixramel device = device_with(0, 0);
+    begin_write(&device, bit_7 | number);
+    want_pointer("pointer after the command", &device, number, bit_7);
+    want("answer to data", ACK, send_byte(&device, 0));
+    want_pointer("pointer after a write", &device, wanted, bit_7);
+    begin_read(&device, bit_7 | number);
+    answer_to(&device, GHIXRAMEL_FETCH, 1);
+    want_pointer("pointer after a fetch", &device, wanted, bit_7);
+    begin_read(&device, bit_7 | number);
+    answer_to(&device, GHIXRAMEL_FETCH, 0);
+    want_pointer("pointer after the last fetch", &device, number, bit_7);
+}
+
+/* After the last group comes the first. */
 static void pointer_points(void)
 {
-    for (uint32_t i = 0; i < part->group_count; i++)
-        for (uint32_t number = part->groups[i].first; number <= part->groups[i].last; number++)
-            pointer_after(number, number == part->groups[i].last ? part->groups[i].first : number + 1);
+    for (uint32_t i = 0; i < part->group_count; i++) {
+        const struct group *group = &part->groups[i], *next = &part->groups[(i + 1) % part->group_count];
+        for (uint32_t number = group->first; number <= group->last; number++) {
+            pointer_after(number, 0, number == group->last ? group->first : number + 1);
+            pointer_after(number, OVER_MAP, number == group->last ? next->first : number + 1);
+        }
+    }
+}
+
+static uint32_t known_numbers(void)
+{
+    uint32_t count = 0;
+    for (uint32_t number = 0; number < REGISTERS; number++)
+        count += group_of(number) != NULL;
+    return count;
+}
+
+/* As many bytes as there are registers lead back; the fetches, of every register once, are beside those of each by itself. */
+static void whole_round(void)
+{
+    about("a whole round", known_numbers());
+    struct ghixramel device = device_with(0, 0);
+    begin_write(&device, OVER_MAP | part->output);
+    for (uint32_t left = known_numbers(); left > 0; left--)
+        want("answer to data", ACK, send_byte(&device, 0xA5));
+    want_pointer("pointer after a round of writes", &device, part->output, OVER_MAP);
+    stop(&device);
+    begin_read(&device, OVER_MAP | part->output);
+    for (uint32_t left = known_numbers(); left > 0; left--) {
+        struct ghixramel single = device;
+        uint32_t number = (uint32_t)image_of(&device).pointer;
+        want("byte of the round", read_register(&single, number), answer_to(&device, GHIXRAMEL_FETCH, 1) & 0xFF);
+        want("what a write left", stored_bits(number) & 0xA5, image_of(&device).registers[number]);
+    }
+    want_pointer("pointer after a round of reads", &device, part->output, OVER_MAP);
+}
+
+/* Each input port that a walk fetches is settled, and no other. */
+static void walk_of_reads(void)
+{
+    about("walk of reads over the input ports", part->ports);
+    struct ghixramel device = device_with(0, 0);
+    begin_write(&device, part->mask);
+    for (uint32_t port = 0; port < part->ports; port++)
+        want("answer to data", ACK, send_byte(&device, 0x00));
+    set_levels(&device, all_pins());
+    begin_read(&device, OVER_MAP | part->groups[part->group_count - 1].last);
+    answer_to(&device, GHIXRAMEL_FETCH, 1);
+    want("status after the highest", all_pins(), image_of(&device).status);
+    for (uint32_t port = 0; port < part->ports; port++) {
+        answer_to(&device, GHIXRAMEL_FETCH, 1);
+        want("status after an input port", all_pins() & ~(((uint64_t)1 << 8 * (port + 1)) - 1), image_of(&device).status);
+    }
+    want("INT", 0, int_of(&device));
+}
+
+/* It outlives STOP and START; a command that is not acknowledged leaves it, the next that is has its own. */
+static void mode_points(void)
+{
+    about("mode kept and cleared", 0);
+    struct ghixramel device = device_with(0, 0);
+    begin_write(&device, OVER_MAP | part->port_kind);
+    stop(&device);
+    want_pointer("pointer after STOP", &device, part->port_kind, OVER_MAP);
+    for (uint32_t bit_7 = 0; bit_7 <= OVER_MAP; bit_7 += OVER_MAP) {
+        start(&device);
+        want("answer to the address", ACK, send_byte(&device, 0x40));
+        want("answer to a reserved command", NAK, send_byte(&device, bit_7 | part->reserved));
+        want_pointer("pointer after a reserved command", &device, part->port_kind, OVER_MAP);
+    }
+    start(&device);
+    want("answer to the address to read", ACK, send_byte(&device, 0x41));
+    answer_to(&device, GHIXRAMEL_FETCH, 1);
+    want_pointer("pointer after a fetch", &device, part->edge, OVER_MAP);
+    begin_write(&device, part->port_kind);
+    want("answer to data", ACK, send_byte(&device, 0));
+    want_pointer("pointer after a group of one", &device, part->port_kind, 0);
 }
 
 static void rise_and_fall(struct ghixramel *device)
@@ -277,6 +364,7 @@ static struct ghixramel armed_device(void)
 {
     struct ghixramel device = device_with(0, 0);
     write_register(&device, part->output, 0x00);
+    begin_write(&device, OVER_MAP | part->output);
     start(&device);
     want("answer to 00h", ACK, send_byte(&device, 0x00));
     want("answer to 06h", ACK, send_byte(&device, 0x06));
@@ -289,6 +377,7 @@ static void reset_points(void)
     struct ghixramel device = armed_device();
     start(&device);
     stop(&device);
+    want_pointer("pointer", &device, part->output, OVER_MAP);
     want("output register", 0x00, read_register(&device, part->output));
 
     about("00h, 06h, one byte more, STOP", 0);
@@ -300,9 +389,14 @@ static void reset_points(void)
     about("00h, 06h, STOP", 0);
     device = armed_device();
     stop(&device);
-    want("pointer", 0x00, image_of(&device).pointer);
+    want_pointer("pointer", &device, 0x00, 0);
     want("bus state", GHIXRAMEL_IDLE, image_of(&device).bus);
     want("output register", 0xFF, read_register(&device, part->output));
+
+    about("hardware reset", 0);
+    begin_write(&device, OVER_MAP | part->output);
+    want("answer to a reset", NOTHING, answer_to(&device, GHIXRAMEL_RESET, 0));
+    want_pointer("pointer", &device, 0x00, 0);
 }
 
 static void command_points(void)
@@ -323,6 +417,9 @@ void check_points(void)
     worked_example();
     drive_points();
     pointer_points();
+    whole_round();
+    walk_of_reads();
+    mode_points();
     interrupt_points();
     edge_points();
     direction_points();

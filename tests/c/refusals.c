@@ -120,6 +120,7 @@ static void want_power_on(uint32_t choice, uint64_t levels)
     want("address choice", choice, image.choice);
     want("status", 0, image.status);
     want("line", 1, image.line);
+    want("mode", 0, image.mode);
     for (uint32_t number = 0; number < REGISTERS; number++) {
         about("register after power-on", number);
         want("value", power_on_entry(number), image.registers[number]);

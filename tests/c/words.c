@@ -19,6 +19,8 @@ uint64_t bits_of_word(uint32_t word)
         return 0x07;
     case CHOICE_WORD:
         return 0x03;
+    case MODE_WORD:
+        return 0x01;
     case PART_WORD:
         return part->number;
     default: /* a pin set, or unused */
@@ -60,7 +62,7 @@ struct ghixramel words_of(const struct ghixramel_image *image)
         pins_at(image, part->pull_enable), pins_at(image, part->pull_select),
         bytes_at(image, part->debounce, part->debounce_bytes), part->debounce_count ? bytes_at(image, part->debounce_count, 1) : 0,
         image->status, image->line,
-        image->pointer, image->bus, image->choice,
+        image->pointer, image->bus, image->choice, image->mode,
         [PART_WORD] = part->number,
     }};
 }
