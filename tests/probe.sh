@@ -28,7 +28,7 @@ talk() { # PROGRAM REGISTERS MASK VALUE LEVELS WANTED
     local program=$1
     coproc ./ghixramel "$program"
     local running=$COPROC_PID
-    image="$2$(printf '\t%016d' 0 0 0 0)"$'\t00\t00\t02\t0000000000000000\t01'
+    image="$2$(printf '\t%016d' 0 0 0 0)"$'\t00\t00\t02\t0000000000000000\t01\t00'
     ask 00000000 0000000000000000
     ask 00000002 0000000000000044
     ask 00000002 00000000000000"$3"
@@ -37,22 +37,36 @@ talk() { # PROGRAM REGISTERS MASK VALUE LEVELS WANTED
     [ "$(cut -f 1-4,13- <<<"$told")" = "$6" ] || fail "$program: a pin's rise got '$told'"
     eval "exec ${COPROC[1]}>&-"
     wait "$running" 2>/dev/null
-    # there is one form: an image without status and line is none
-    [ "$(printf '%s\t00000000\t0000000000000000\n' "$(cut -f 1-8 <<<"$image")" | ./ghixramel "$program")" = $'refused\t7' ] ||
-        fail "$program: an image without status and line is readable"
+    # there is one form: an image without the mode is none, nor one without status and line too
+    local older
+    for older in 8 10; do
+        [ "$(printf '%s\t00000000\t0000000000000000\n' "$(cut -f 1-$older <<<"$image")" | ./ghixramel "$program")" = $'refused\t7' ] ||
+            fail "$program: an image of $older fields is readable"
+    done
 }
 
 registers24=$(zeros 8)ffffff$(zeros 10)ffffff$(zeros 98)ffffffffffff$(zeros 20)ffffff00ffffff$(zeros 82)
 registers34=$(zeros 10)ffffffff03$(zeros 10)ffffffff03$(zeros 56)ffffffffffffffff0f$(zeros 22)ffffffff03ffffffff03$(zeros 100)
-talk probe "$registers24" 54 fe 0000000000000001 $'-\t0\t000000\t000000\t0000000000000001\t00'
-talk probe34 "$registers34" 4d fd 0000000200000000 $'-\t0\t000000000\t000000000\t0000000200000000\t00'
+talk probe "$registers24" 54 fe 0000000000000001 $'-\t0\t000000\t000000\t0000000000000001\t00\t00'
+talk probe34 "$registers34" 4d fd 0000000200000000 $'-\t0\t000000000\t000000000\t0000000200000000\t00\t00'
+# the same, as a host says it that steps over the whole map
+talk probe "$registers24" d4 fe 0000000000000001 $'-\t0\t000000\t000000\t0000000000000001\t00\t01'
+talk probe34 "$registers34" cd fd 0000000200000000 $'-\t0\t000000000\t000000000\t0000000200000000\t00\t01'
 
 # one part's image is broken for the other
-one() { # PROGRAM REGISTERS
-    printf '%s\t00\t00\t02\t0000000000000000\t01\t00000000\t0000000000000000\n' "$2$(printf '\t%016d' 0 0 0 0)" | ./ghixramel "$1"
+one() { # PROGRAM REGISTERS [MODE]
+    printf '%s\t00\t00\t02\t0000000000000000\t01\t%s\t00000000\t0000000000000000\n' "$2$(printf '\t%016d' 0 0 0 0)" "${3:-00}" |
+        ./ghixramel "$1"
 }
 [ "$(one probe "$registers34")" = $'refused\t3' ] || fail "probe takes the sister's image"
 [ "$(one probe34 "$registers24")" = $'refused\t3' ] || fail "probe34 takes the 24-pin part's image"
+# there are two modes
+[ "$(one probe "$registers24" 01 | cut -f 1,15)" = $'-\t01' ] || fail "probe does not take mode 1"
+[ "$(one probe34 "$registers34" 01 | cut -f 1,15)" = $'-\t01' ] || fail "probe34 does not take mode 1"
+for mode in 02 80 81 ff; do
+    [ "$(one probe "$registers24" $mode)" = $'refused\t3' ] || fail "probe takes mode $mode"
+    [ "$(one probe34 "$registers34" $mode)" = $'refused\t3' ] || fail "probe34 takes mode $mode"
+done
 
 for program in probe probe34; do
     # a line of ten million bytes is one refusal

@@ -26,6 +26,9 @@ ask $'device\t2\t000000'
 ask 'start'
 ask $'byte\t44'
 [ "$told" = $'ack\t1\t000000\t000000' ] || fail "the address byte got '$told'"
+# bit 7 of a command lets it step over the whole map: after 5C comes 60
+ask $'byte\tdc'
+[ "$told" = $'ack\t1\t000000\t000000' ] || fail "a command with bit 7 got '$told'"
 # the sister has nine digits, and a later device line goes back to six
 ask $'device34\t2\t000000000'
 [ "$told" = $'-\t1\t000000000\t000000000' ] || fail "the sister got '$told'"
