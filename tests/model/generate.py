@@ -1,7 +1,7 @@
 """Seeded generators for either part: trace logs, probe, view and burst lines, the planner's starts and goals."""
 
-from device import (ASSERTED, BYTE, CALL, CHOSEN, EVENT_BYTES, FETCH, FILLING, IN_GROUP, LEVELS, MOST_EVENTS, OPENED, OVER_MAP,
-                    PARTS, QUIET, SENDING, Device, Image, kept_image)
+from device import (ASSERTED, BYTE, CALL, CHOSEN, EVENT_BYTES, FETCH, FILLING, IN_GROUP, LEVELS, MOST_EVENTS, OPENED,
+                    OVER_MAP, PARTS, QUIET, SENDING, Device, Image, kept_image)
 from probe import WIDTHS, image_fields
 
 
@@ -217,25 +217,26 @@ class Log:
                 self.event('fetch\t1')
 
     def walk(self):
-        """Over the end of a group, around the top or over the whole map, written or read, perhaps after a STOP or a reset."""
+        """Over the end of a group, around the top or over the whole map, written, read, or read after a STOP or a reset."""
         rng, all_numbers = self.rng, KNOWN[self.which]
         number = rng.choice((rng.choice(self.part.groups).last, rng.choice(all_numbers[-4:]), rng.choice(all_numbers)))
         count = rng.choices((2, 4, 9, len(all_numbers) + 1), (8, 8, 3, 1))[0]
         self.start(0)
         self.command(number, OVER_MAP)
-        between = rng.choice((None, None, 'stop', 'start', 'refused', 'reset', 'call'))
         if rng.random() < 0.4:
             for _ in range(count):
                 self.event('byte\t%02x' % self.value(number))
                 number = self.following(number, OVER_MAP)
             count = 3
-        if between in ('start', 'stop', 'reset'):
-            self.lines.append(between)
-        elif between == 'refused':
+        between = rng.choice(('', '', 'stop', 'start', 'refused', 'reset', 'start byte\t00 byte\t06 stop'))
+        if between == 'refused':
             self.start(0)
             self.refused_command()
-        elif between == 'call':
-            self.general_call()
+        else:
+            self.lines += between.split(' ') if between else ()
+        # After a reset only a read past the input ports shows whether the pointer stays among them.
+        if 'reset' in between or 'byte' in between:
+            count = self.part.ports + 1
         self.start(1)
         for _ in range(count):
             self.event('fetch\t1')
@@ -374,7 +375,7 @@ class Log:
 
     def garbage(self):
         rng = self.rng
-        self.lines.append(rng.choice(rng.choice((GARBAGE, GARBAGE, DIGITS[self.which])) + (
+        self.lines.append(rng.choice(rng.choice((GARBAGE, NO_DEVICES, DIGITS[self.which])) + (
             'pins\t' + '0' * rng.randint(29, 400), 'start' * rng.randint(7, 100),
             'y' * rng.choice((64, 1023, 1024, 4095, 4096, 5000)))))
 
@@ -403,24 +404,28 @@ class Log:
 # Lines that no session can read.
 GARBAGE = (
     '', ' ', '\t', 'start ', ' start', 'START', 'Start', 'start\r', 'stop\r', 'reset\r', 'start\t', '\tstart',
-    'stop\t0', 'reset\t', 'byte', 'byte\t', 'byte\t4', 'byte\t044', 'byte\t4G', 'byte\tFF', 'byte\t0x',
-    'byte\t4 ', 'byte 44', 'byte\t\t44', 'byte\t44\t', 'byte\t44\t44', 'byte\t44\r', 'byte\t-1', 'byte\t+1',
-    'byte\t1_', 'fetch', 'fetch\t', 'fetch\t2', 'fetch\t00', 'fetch\t01', 'fetch\tf', 'fetch\t1\r', 'fetch\t1\t',
-    'pins', 'pins\t', 'pins\t00000', 'pins\t0000000', 'pins\t1000000', 'pins\tABCDEF', 'pins\t00000g',
-    'pins\t000001\r', 'pins\t000001\t', 'pins\t0000 1', 'device', 'device\t0', 'device\t4\t000000',
-    'device\tf\t000000', 'device\t00\t000000', 'device\t2\t1000000', 'device\t2\t00000', 'device\tA\t000000',
-    'device\t2\t00000F', 'device\t2\t000000\t', 'device\t2\t000000\r', 'device\t\t000000', 'device\t2\t',
-    'devices\t2\t000000', 'starts', 'stopp', 'rese', 'answer\tint\tlow\thigh', '\0', 'start\0', '\xff\xfe',
+    'stop\t0', 'reset\t', 'byte', 'byte\t', 'byte\t4', 'byte\t044', 'byte\t4G', 'byte\tFF', 'byte\t0x', 'byte\t4 ',
+    'byte 44', 'byte\t\t44', 'byte\t44\t', 'byte\t44\t44', 'byte\t44\r', 'byte\t-1', 'byte\t+1', 'byte\t1_', 'fetch',
+    'fetch\t', 'fetch\t2', 'fetch\t00', 'fetch\t01', 'fetch\tf', 'fetch\t1\r', 'fetch\t1\t', 'pins', 'pins\t',
+    'pins\t00000', 'pins\t0000000', 'pins\t1000000', 'pins\tABCDEF', 'pins\t00000g', 'pins\t000001\r',
+    'pins\t000001\t', 'pins\t0000 1', 'starts', 'stopp', 'rese', 'answer\tint\tlow\thigh', '\0', 'start\0', '\xff\xfe',
     'byte\t\xb2\xb2', 'refused\t7', 'x' * 31, 'x' * 32, 'x' * 33, 'start' + ' ' * 27, 'start' + ' ' * 28,
     'pins\t' + '0' * 27, 'pins\t' + '0' * 28, 'byte\t44' * 5, 'z' * 70 + '\tpins\t000001', 'q' * 33 + 'stop',
-    'q' * 32 + 'stop', 'pins\t00000001', 'pins\t0000000001', 'pins\t0000000g1', 'pins\t00000000A',
-    'pins\t000000001\r', 'pins\t000000001\t', 'device34', 'device34\t0', 'device34\t4\t000000000',
+    'q' * 32 + 'stop', 'pins\t00000001', 'pins\t0000000001', 'pins\t0000000g1', 'pins\t00000000A', 'pins\t000000001\r',
+    'pins\t000000001\t',
+)
+# Those that make no device.
+NO_DEVICES = (
+    'device', 'device\t0', 'device\t4\t000000', 'device\tf\t000000', 'device\t00\t000000', 'device\t2\t1000000',
+    'device\t2\t00000', 'device\tA\t000000', 'device\t2\t00000F', 'device\t2\t000000\t', 'device\t2\t000000\r',
+    'device\t\t000000', 'device\t2\t', 'devices\t2\t000000', 'device34', 'device34\t0', 'device34\t4\t000000000',
     'device34\t2\t000000', 'device34\t2\t00000000', 'device34\t2\t0000000000', 'device34\t2\t400000000',
     'device34\t0\tfffffffff', 'device34\t1\t800000000', 'device34\t00\t000000000', 'device34\t2\t00000000F',
     'device34\t2\t000000000\t', 'device34\t2\t000000000\r', 'device34\t\t000000000', 'device34 2 000000000',
     'device\t2\t000000000', 'device\t0\t000000001', 'device\t3\t000ffffff', 'device24\t2\t000000',
-    'device340\t2\t000000000', 'device3\t2\t000000000',
-    'Device34\t2\t000000000', 'device34\tA\t000000000', 'device\t34\t000000000', 'device\t2\tfffffffff',
+    'device340\t2\t000000000', 'device3\t2\t000000000', 'Device34\t2\t000000000', 'device34\tA\t000000000',
+    'device\t34\t000000000', 'device\t2\tfffffffff', 'device\t5\t000001', 'device\t8\tffffff',
+    'device34\t5\t000000001', 'device34\t8\t3ffffffff',
 )
 # And those that the other part could, or that have more pins than digits tell.
 DIGITS = {

@@ -3,8 +3,8 @@
 A mutant of the device is tried on each part that it is about, the other part being right: on both, if it does not say.
 """
 
-from device import (ARMED, ASSERTED, BYTE, CALL, CHOSEN, DEAF, EVENT_BYTES, FETCH, FILLING, IDLE, IN_GROUP, LEVELS, MOST_EVENTS,
-                    OPENED, OVER_MAP, PARTS, QUIET, RESET, SENDING, Device, Part, Pin, pin_set)
+from device import (ARMED, ASSERTED, BYTE, CALL, CHOSEN, DEAF, EVENT_BYTES, FETCH, FILLING, IDLE, IN_GROUP, LEVELS,
+                    MOST_EVENTS, OPENED, OVER_MAP, PARTS, QUIET, RESET, SENDING, Device, Part, Pin, pin_set)
 from judge import Planner
 from trace import Session, answer_line
 

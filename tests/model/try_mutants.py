@@ -25,6 +25,8 @@ IMAGE_LINES = 6000
 VIEW_LINES = 3000
 BURST_LINES = 3000
 PLANS = 3000
+# Of both in turns.
+READER_TRACES = 900
 
 
 class Cases:
@@ -63,7 +65,7 @@ def trace_cases(rng, which, count):
 
 def reader_cases(rng, count):
     """Logs of both parts in turns, by whole sessions."""
-    logs = [generate.trace_log(rng, list(PARTS)[n % len(PARTS)], alone=n % 10 == 9) for n in range(count)]
+    logs = (generate.trace_log(rng, list(PARTS)[n % len(PARTS)], alone=n % 10 == 9) for n in range(count))
     return Cases(map(read_log, logs), lambda log, session: answers(log, session()), Session)
 
 
@@ -153,7 +155,7 @@ def main(seed, everything):
         for cls in PLANNERS:
             if which in cls.on:
                 verdicts.put('plans', '%s of %d' % (cls.__name__, which), corpus.plans.tell(cls))
-    logs = reader_cases(random.Random('readers %d' % seed), TRACES)
+    logs = reader_cases(random.Random('readers %d' % seed), READER_TRACES)
     for cls in READERS:
         verdicts.put('readers', cls.__name__, logs.tell(cls))
     by = verdicts.by
