@@ -8,9 +8,9 @@ use probe_images::Line;
 // Writes the answers so far where there is no room for one more, and says where the next one goes.
 fn make_room(out: &[u8], end: usize) -> usize
     requires { ⌜ end ≤ length (now out) ⌝ }
-    ensures { λ at. ⌜ at ≤ 65156 ⌝ }
+    ensures { λ at. ⌜ at ≤ 65153 ⌝ }
 {
-    if end <= 65_156 {
+    if end <= 65_153 {
         return end;
     }
     io::write_all(STDOUT_FILENO, &out[0..end]);
