@@ -10,10 +10,6 @@ use Rattle.planner_quiet.specs.Settings.{registersOf}
 use Rattle.planner_promise.specs.Formed.{roomFor}
 use Rattle.planner_promise.specs.Answer.{answerOf}
 
-pub sister : (n : ℕ) → (n ≡ 0 → ⊥) → part34 ≡ partOf n
-sister zero h = absurd (h refl)
-sister (suc n) h = refl
-
 pub few-bytes : (n : ℕ) → length (registersOf (partOf n)) ≤ 16
 few-bytes zero = omega arith
 few-bytes (suc n) = omega arith

@@ -1,4 +1,4 @@
-// The work of the programs plan: a start and a goal as two arguments or as lines on standard input; the part's plan or refusal on standard output.
+// The work of the programs plan and plan34: a start and a goal as two arguments or as lines on standard input; the part's plan or refusal on standard output.
 ghost use Rattle.plan_lines.specs.Asks.{Said};
 use device::PART24;
 use device_rules::UNREADABLE;

@@ -1,5 +1,5 @@
 -- `plan_lines::asked`: each part's planner answers for its part (`Parts`). Assumes nothing.
-use mathlib.Core.Path.{_≡_, subst}
+use mathlib.Core.Path.{subst}
 use borrow.Author.Needs.{needs}
 use Rattle.planner_promise.specs.Answer.{Answers}
 use Rattle.plan_lines.proofs.Parts.{asked-first, asked-sister}

@@ -1,5 +1,5 @@
 -- `plan_lines::line_refusal`: each test is one of the definition's. Assumes nothing.
-use mathlib.Core.Path.{_≡_, sym, _∙_}
+use mathlib.Core.Path.{sym, _∙_}
 use borrow.Author.Needs.{needs}
 use borrow.Author.Tests.{eq-eqb, ne-eqb}
 use Rattle.plan_lines.specs.Asks.{lineRefusal}

@@ -1,11 +1,11 @@
 -- `plan_lines::setting_bytes`: ten for the first part, sixteen for its sister. Assumes nothing.
-use mathlib.Core.Path.{_≡_, refl, sym, ap}
+use mathlib.Core.Path.{sym, ap}
 use Prim.Native.Nat.{ℕ}
 use native.Mathlib.Omega.{arith}
 use lib.ListN.{length}
 use Rattle.map.specs.Map.{Part, partOf}
+use Rattle.map.proofs.Parts.{sister}
 use Rattle.planner_quiet.specs.Settings.{registersOf}
-use Rattle.plan_lines.proofs.Parts.{sister}
 use Rattle.plan_lines.proofs.setting_bytes.Statement.{statement}
 use Rattle.plan_lines.proofs.setting_bytes.Tie as tie
 
