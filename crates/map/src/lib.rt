@@ -13,26 +13,14 @@ pub const DEBOUNCED24: u64 = 0xffff;
 
 pub const DEBOUNCE_COUNT24: u64 = 0xff;
 
-// Its registers that a setting holds, port by port.
-pub const OUTPUT24_0: u8 = 0x04;
+// The first registers of what a setting holds: output, configuration, the output port kind, pin output kind.
+pub const OUTPUT24: u8 = 0x04;
 
-pub const OUTPUT24_1: u8 = 0x05;
-
-pub const OUTPUT24_2: u8 = 0x06;
-
-pub const CONFIGURATION24_0: u8 = 0x0c;
-
-pub const CONFIGURATION24_1: u8 = 0x0d;
-
-pub const CONFIGURATION24_2: u8 = 0x0e;
+pub const CONFIGURATION24: u8 = 0x0c;
 
 pub const PORT_KIND24: u8 = 0x5c;
 
-pub const PIN_KIND24_0: u8 = 0x70;
-
-pub const PIN_KIND24_1: u8 = 0x71;
-
-pub const PIN_KIND24_2: u8 = 0x72;
+pub const PIN_KIND24: u8 = 0x70;
 
 // What the table of successors has for a reserved number.
 const RESERVED: u8 = 0;
@@ -177,6 +165,14 @@ pub const PORT_KINDS34: u64 = 0x1f;
 pub const DEBOUNCED34: u64 = 0xff_ffff;
 
 pub const DEBOUNCE_COUNT34: u64 = 0;
+
+pub const OUTPUT34: u8 = 0x05;
+
+pub const CONFIGURATION34: u8 = 0x0f;
+
+pub const PORT_KIND34: u8 = 0x53;
+
+pub const PIN_KIND34: u8 = 0x68;
 
 // Its group step.
 pub const NEXT34: [u8; 128] = [

@@ -40,20 +40,20 @@ pub struct Layout {
 
 const LAYOUT24: Layout = Layout {
     ports: 3,
-    output: map::OUTPUT24_0,
-    configuration: map::CONFIGURATION24_0,
+    output: map::OUTPUT24,
+    configuration: map::CONFIGURATION24,
     kind: map::PORT_KIND24,
-    flip: map::PIN_KIND24_0,
+    flip: map::PIN_KIND24,
     kinds: 0x07,
     last: 0xff,
 };
 
 const LAYOUT34: Layout = Layout {
     ports: 5,
-    output: 0x05,
-    configuration: 0x0f,
-    kind: 0x53,
-    flip: 0x68,
+    output: map::OUTPUT34,
+    configuration: map::CONFIGURATION34,
+    kind: map::PORT_KIND34,
+    flip: map::PIN_KIND34,
     kinds: 0x1f,
     last: 0x03,
 };
