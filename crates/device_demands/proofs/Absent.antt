@@ -20,7 +20,7 @@ use Rattle.registers.specs.Registers.{onePin, drivenLow, drivenHigh, shownAs}
 use Rattle.registers.specs.Interrupt.{Interrupt, workedOut, shownKept}
 use Rattle.device_rules.specs.Device.{State}
 use Rattle.device_rules.specs.PowerOn.{powerOn}
-use Rattle.device_rules.proofs.Images.{known-small}
+use Rattle.map.proofs.Onward.{known-small}
 use Rattle.device_demands.specs.Run.{Asked, after}
 use Rattle.device_demands.specs.Absent.{NoPin, Nowhere}
 use Rattle.device_demands.proofs.Lawful.{Lawful, showsPins, shown-place}

@@ -28,7 +28,8 @@ use Rattle.device_rules.specs.Device.Event.{Start, Stop, HardwareReset, ByteSen
 use Rattle.device_rules.specs.Held.{Sound}
 use Rattle.device_rules.specs.declared.Answer.the-variants.{Ack, Nak}
 use Rattle.device_rules.specs.PowerOn.{powerOn}
-use Rattle.device_rules.proofs.Images.{sound-of, fits-of, known-small}
+use Rattle.map.proofs.Onward.{known-small}
+use Rattle.device_rules.proofs.Images.{sound-of, fits-of}
 use Rattle.device_demands.specs.Run.{Asked, after}
 use Rattle.registers.proofs.Pinwise.{load-set}
 use Rattle.device_demands.proofs.Lawful.{Lawful}

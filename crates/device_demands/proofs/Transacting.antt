@@ -26,7 +26,8 @@ use Rattle.device_rules.specs.Device.Bus.{Idle, Opened, Chosen, Filling, Sendin
 use Rattle.device_rules.specs.Device.Event.{ByteSent}
 use Rattle.device_rules.specs.declared.Answer.{Answer}
 use Rattle.device_rules.specs.declared.Answer.the-variants.{Nothing, Ack, Byte}
-use Rattle.device_rules.proofs.Images.{known-small, start-taken, stop-taken, byte-taken, fetch-taken}
+use Rattle.map.proofs.Onward.{known-small}
+use Rattle.device_rules.proofs.Images.{start-taken, stop-taken, byte-taken, fetch-taken}
 use Rattle.device_demands.specs.Run.{Asked, after, answers}
 use Rattle.device_demands.specs.Transactions.{rightly, START, STOP, sent, toWrite, toRead, fetch as fetched-byte, sentAll, numberIn, modeIn, writeAllOver, Bytes, writtenFrom, acks, fetchedAll, readAllOn, readAllOver, shownFrom, fetchedFrom}
 use Rattle.device_demands.proofs.Lawful.{Lawful, shown-place}

@@ -1,14 +1,14 @@
 -- Images that fit, and what an event given by its kind and argument is: for every part. Assumes nothing.
-use mathlib.Core.Path.{_≡_, refl, sym, ap}
-use mathlib.Core.Bool.{Bool, true, false, not, _&&_, _||_}
+use mathlib.Core.Path.{_≡_, sym, ap}
+use mathlib.Core.Bool.{Bool, true, false, not, _&&_}
 use Prim.Native.Nat.{ℕ, _^_, _<_}
 use borrow.Author.Tests.{lt-ltb, ltb-true, not-true, eq-eqb, eqb-true}
 use lib.Dec.{eqb, ltb}
-use Rattle.bits.proofs.Decide.{clash, and-left, and-right}
+use Rattle.bits.proofs.Decide.{and-left, and-right}
 use Rattle.pins.specs.AllPins.{Within}
 use Rattle.pins.specs.declared.Sets.{Sets}
-use Rattle.map.specs.Map.{Part, kindAt, code, reserved, fileFits}
-use Rattle.map.specs.Map.Kind.{Reserved}
+use Rattle.map.specs.Map.{Part, reserved, fileFits}
+use Rattle.map.proofs.Onward.{known-small}
 use Rattle.registers.specs.Interrupt.{Interrupt, workedOut}
 use Rattle.registers.proofs.Kept.{same-interrupt}
 use Rattle.device_rules.specs.Device.{State, out, step}
@@ -32,14 +32,6 @@ within-of p x e =
       held-small = ltb-true (x .held) (2 ^ p .width) (and-left c d u);
       edge-small = ltb-true (x .edge) (2 ^ p .width) (and-right c d u);
     }
-
-pub known-small : (p : Part) (n : ℕ) → reserved p n ≡ false → n < 128
-unfolding reserved
-known-small p n e = go (eqb (code (kindAt p n)) (code Reserved)) (ltb n 128) refl e
-  where
-    go : (r t : Bool) → ltb n 128 ≡ t → (not t || r) ≡ false → n < 128
-    go r true h q = ltb-true n 128 h
-    go r false h q = clash true refl q
 
 -- what is kept of the interrupt fits exactly if it is what the rules work out
 pub right-of : (p : Part) (s : State) → interruptFits p s ≡ true → s .interrupt ≡ workedOut p (s .regs)

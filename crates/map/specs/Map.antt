@@ -130,7 +130,7 @@ firstOf p k = firstIn (p .groups) k
 unfoldable pub kindAt : Part → ℕ → Kind
 kindAt p n = groupIn (p .groups) n .kind
 
--- a command number above 7Fh is treated as reserved
+-- no register has a number above 7Fh: such a number counts as reserved
 unfoldable pub reserved : Part → ℕ → Bool
 reserved p n = not (ltb n 128) || eqb (code (kindAt p n)) (code Reserved)
 

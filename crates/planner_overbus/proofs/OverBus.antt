@@ -16,7 +16,7 @@ use Rattle.device_rules.specs.Device.Bus.{Idle, Opened, Chosen}
 use Rattle.device_rules.specs.declared.Answer.{Answer}
 use Rattle.device_rules.specs.declared.Answer.the-variants.{Nothing, Ack}
 use Rattle.device_rules.specs.Refusals.{stepped}
-use Rattle.device_rules.proofs.Images.{known-small}
+use Rattle.map.proofs.Onward.{known-small}
 use Rattle.device_demands.specs.Run.{Asked, after, answers}
 use Rattle.device_demands.specs.Transactions.{rightly, START, sent, toWrite, numberIn, modeIn, writeOver, writtenFrom}
 use Rattle.device_demands.proofs.Lawful.{Lawful}
