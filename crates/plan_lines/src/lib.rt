@@ -12,7 +12,6 @@ ghost use Rattle.planner_promise.specs.Answer.{answerOf, Answers};
 ghost use Rattle.planner_promise.specs.Promise.{refusalOf, countOf};
 ghost use Rattle.plan_lines.specs.Asks.{byteTaken, digitTaken, withDigit, taken, lineRefusal, Holds, Said};
 ghost use Rattle.plan_lines.specs.Told.{writeText, pairsText, planLine, plannedText, Tells};
-use planner::PLAN_ROOM34;
 use planner_promise::Planned;
 
 // One field of the line: its first sixteen bytes, how many there are (17 for more), the digit that waits (16 for none).
@@ -263,7 +262,7 @@ pub fn answer(part: u8, r: Reading, out: &mut [u8], at: usize) -> Told
     let second = r.goal;
     let start = first.bytes;
     let goal = second.bytes;
-    let mut pairs = [0u8; PLAN_ROOM34];
+    let mut pairs = [0u8; 52];
     let planned = asked(part, &start, &goal, &mut pairs);
     put_planned(out, at, planned, &pairs)
 }
