@@ -319,14 +319,15 @@ pub fn pins_of(part: u64) -> u64
     PINS34
 }
 
-// And its group step, to be lent to a loop: an array that is indexed by its name is built anew at each lookup.
-pub fn next_of(part: u64) -> [u8; 128]
-    ensures { λ r. ⌜ Stepping (partOf part) r ⌝ }
+// Those of a part that is given by its number, written to what a loop is lent.
+pub fn put_next(next: &mut [u8; 128], part: u64)
+    ensures { λ r. ⌜ Stepping (partOf part) (now (next .exit)) ⌝ }
 {
     if part == 0 {
-        return NEXT24;
+        *next = NEXT24;
+        return;
     }
-    NEXT34
+    *next = NEXT34;
 }
 
 // The step over the whole map, from a register of the 24-pin part: to the next number, past the reserved ones after these, and from the highest to 00h.

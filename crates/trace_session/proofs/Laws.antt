@@ -25,7 +25,7 @@ use Rattle.words.proofs.Showing.{one-pin}
 use Rattle.words_rows.specs.Rows.{Rowed}
 use Rattle.words_state.specs.Packed.{stateIn, Packed}
 use Rattle.words_device.specs.Named.{Named}
-use Rattle.words_device.proofs.Naming.{named}
+use Rattle.words_state.proofs.Standing.{named}
 use Rattle.text.specs.Text.{Wrote}
 use Rattle.text.proofs.Laws.{wrote-as}
 use Rattle.trace_lines.specs.declared.Line.{Line}

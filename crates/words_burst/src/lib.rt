@@ -170,8 +170,10 @@ pub fn burst(
         *done = [0];
         return BROKEN;
     }
-    let rows = words_rows::rows_of(part);
-    let next = map::next_of(part);
+    let mut rows = [0; 128];
+    let mut next = [0; 128];
+    words_rows::put_rows(&mut rows, part);
+    map::put_next(&mut next, part);
     let pins = map::pins_of(part);
     run(
         words,

@@ -1,9 +1,9 @@
 // The bus on words that are packed: what every event does, for either part.
 ghost use mathlib.Core.Path.{_≡_};
-ghost use mathlib.Core.Bool.{true, false};
+ghost use mathlib.Core.Bool.{true, false, cond};
 ghost use Prim.Native.Nat.{ℕ, _-_, _%_, _^_, _<_};
-ghost use lib.ListN.{getD};
-ghost use Rattle.map.specs.Map.{partOf, reserved, nextIn};
+ghost use lib.ListN.{getD, set};
+ghost use Rattle.map.specs.Map.{partOf, onward, nextIn};
 ghost use Rattle.device_rules.specs.Device.{byteIn, step as stepOf};
 ghost use Rattle.device_rules.specs.Device.Bus.{Opened, Chosen, Filling, Call};
 ghost use Rattle.device_rules.specs.Device.Event.{Stop, ByteSent, ByteFetched};
@@ -77,16 +77,13 @@ fn byte_chosen(words: &mut [u64; 28], wanted: u32, value: u8) -> u32
     words_state::goes(words, FILLING, ACK)
 }
 
-// Where the pointer steps to, from the register whose row is given: in its group, or over the whole map.
-fn next_number(words: &[u64; 28], row: u32) -> u64
-    requires { ⌜ Standing row (getD (now words) 21 0) (now words) ⌝ }
-    ensures { λ r. ⌜ ((c : ℕ) → Packed c (now (words .entry)) → row ≡ rowAt (partOf c) (getD (now (words .entry)) 21 0)
-        → (r ≡ nextIn (partOf c) (getD (now (words .entry)) 24 0) (getD (now (words .entry)) 21 0)) × (reserved (partOf c) r ≡ false)) ⌝ }
+// The pointer steps over the whole map, and the answer is handed on.
+fn steps_over_map(words: &mut [u64; 28], answer: u32) -> u32
+    requires { ⌜ Packed (getD (now words) 27 0) (now words) ⌝ }
+    ensures { λ a. ⌜ (a ≡ answer) × ((c : ℕ) → Packed c (now (words .entry)) → now (words .exit) ≡ set (now (words .entry)) 21 (onward (partOf c) (getD (now (words .entry)) 21 0))) ⌝ }
 {
-    if words[MODE] == 0 {
-        return words_rows::successor(row);
-    }
-    map::onward_of(words[PART], (words[POINTER] % 128) as u8) as u64
+    words[POINTER] = map::onward_of(words[PART], (words[POINTER] % 128) as u8) as u64;
+    answer
 }
 
 // A byte in Filling: the register at the pointer, whose row is given, is written, and the pointer steps.
@@ -95,10 +92,12 @@ fn byte_filling(words: &mut [u64; 28], row: u32, value: u8) -> u32
     ensures { λ a. ⌜ ((c : ℕ) → Packed c (now (words .entry)) → getD (now (words .entry)) 22 0 ≡ 3 → row ≡ rowAt (partOf c) (getD (now (words .entry)) 21 0)
         → Leaves c (now (words .exit)) (answerAt a) (byteIn (partOf c) Filling (stateIn (partOf c) (now (words .entry))) value)) ⌝ }
 {
-    let next = next_number(&*words, row);
     words_kept::write(words, row, value);
-    words[POINTER] = next;
-    ACK
+    if words[MODE] == 0 {
+        words[POINTER] = words_rows::successor(row);
+        return ACK;
+    }
+    steps_over_map(words, ACK)
 }
 
 // A byte in Call: software reset, or nothing.
@@ -128,6 +127,22 @@ fn byte(words: &mut [u64; 28], row: u32, value: u8) -> u32
     }
 }
 
+// A byte was shown, with that answer: acknowledged, the pointer steps; else the device is deaf.
+fn was_fetched(words: &mut [u64; 28], row: u32, acknowledged: bool, answer: u32) -> u32
+    requires { ⌜ Packed (getD (now words) 27 0) (now words) ⌝ }
+    ensures { λ a. ⌜ (a ≡ answer) × ((c : ℕ) → Packed c (now (words .entry)) → row ≡ rowAt (partOf c) (getD (now (words .entry)) 21 0)
+        → now (words .exit) ≡ cond acknowledged (set (now (words .entry)) 21 (nextIn (partOf c) (getD (now (words .entry)) 24 0) (getD (now (words .entry)) 21 0))) (set (now (words .entry)) 22 7)) ⌝ }
+{
+    if !acknowledged {
+        return words_state::goes(words, DEAF, answer);
+    }
+    if words[MODE] != 0 {
+        return steps_over_map(words, answer);
+    }
+    words[POINTER] = words_rows::successor(row);
+    answer
+}
+
 // A byte fetched by the master.
 fn fetch(words: &mut [u64; 28], row: u32, acknowledged: bool) -> u32
     requires { ⌜ Standing row (getD (now words) 21 0) (now words) ⌝ }
@@ -137,15 +152,13 @@ fn fetch(words: &mut [u64; 28], row: u32, acknowledged: bool) -> u32
     if words[BUS] != SENDING {
         return words_state::read(0xff);
     }
-    let shown = words_views::show(&*words, row);
-    let next = next_number(&*words, row);
-    words_kept::settle(words, row);
-    if acknowledged {
-        words[POINTER] = next;
-        return words_state::read(shown);
+    if words_rows::rule(row) == words_rows::INPUT {
+        let answer = words_state::read(words_views::show_inputs(&*words, row));
+        words_kept::settle(words, row);
+        return was_fetched(words, row, acknowledged, answer);
     }
-    words[BUS] = DEAF;
-    words_state::read(shown)
+    let answer = words_state::read(words_views::show(&*words, row));
+    was_fetched(words, row, acknowledged, answer)
 }
 
 // STOP.

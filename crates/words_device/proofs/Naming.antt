@@ -7,12 +7,9 @@ use Rattle.device_rules.specs.Refusals.{stepped}
 use Rattle.device_rules.specs.declared.Answer.{Answer}
 use Rattle.words_rows.specs.Rows.{Tabled}
 use Rattle.words_state.specs.Packed.{stateIn, Packed, Leaves}
-use Rattle.words_device.specs.Named.{Named, Obeys}
+use Rattle.words_device.specs.Named.{Obeys}
 
 module _ (c : ℕ) (w : List ℕ) (k : Packed c w) where
-  pub named : Named w
-  named = rw (k .part-is) k
-
   pub its-tables : {rows next : List ℕ} {pins : ℕ} → Tabled c rows next pins → Tabled (getD w 27 0) rows next pins
   its-tables t = rw (k .part-is) t
 

@@ -73,7 +73,7 @@ pub fn event_by(
         let wanted = row_in(rows, next, (arg % 128) as usize);
         return words_bus::command(words, wanted, arg);
     }
-    let row = row_in(rows, next, (words[POINTER] % 128) as usize);
+    let row = row_in(rows, next, words[POINTER] as usize);
     words_bus::event(words, pins, row, kind, arg)
 }
 

@@ -8,13 +8,14 @@ use borrow.Author.Tests.{eqb-true, eqb-false, ne-eqb, ltb-true, ltb-false, lt-lt
 use lib.Bits.{bitAnd, bitOr}
 use lib.Dec.{eqb, ltb}
 use Rattle.bits.proofs.Decide.{each, eachBool, clash}
-use Rattle.map.specs.Map.{Part, Kind, part24, part34, kindAt, code, stored, reserved, next, successor, roomAt, partOf}
+use Rattle.map.specs.Map.{Part, Kind, part24, part34, kindAt, code, stored, reserved, next, onward, nextIn, successor, roomAt, partOf}
 use Rattle.map.specs.Map.Kind.{Reserved, Input, Status, InputStatus, Configuration, Latch, Mask, PortKind, Edge, Clear, Output, Polarity, PinKind, Stored}
 use Rattle.registers.specs.Interrupt.{rings}
 use Rattle.words.specs.Words.{slotAt, digitAt, paired}
 use Rattle.words.proofs.Moving.{still}
 use Rattle.words.proofs.Sound.{sound, single, pick, code-small, word-is}
 use Rattle.map.proofs.ByNumber.{kind-is}
+use Rattle.map.proofs.Onward.{onward-known}
 use Rattle.words_rows.specs.Rows.{ruleAt, rowAt, bareAt, wordIn, Numbered, Known}
 
 -- n is none of the numbers below k, as a `match` of one number an arm says it
@@ -136,6 +137,15 @@ module _ (row part n : ℕ) (known : reserved (partOf part) n ≡ false) (e : ro
   -- the next number of a register's group is a register's too
   pub next-known : reserved (partOf part) (next (partOf part) n) ≡ false
   next-known = rw known at (rows part .nexts n known-small)
+
+  -- and so is the next by the mode
+  pub step-known : (mode : ℕ) → reserved (partOf part) (nextIn (partOf part) mode n) ≡ false
+  unfolding nextIn
+  step-known mode = go (eqb mode 1)
+    where
+      go : (over : Bool) → reserved (partOf part) (cond over (onward (partOf part) n) (next (partOf part) n)) ≡ false
+      go true = onward-known part n known
+      go false = next-known
 
   pub existing-of : row / 2 ^ 24 ≡ 2 ^ roomAt (partOf part) n - 1
   existing-of = ap (λ (r : ℕ). r / 2 ^ 24) e ∙ rw known at (rows part .existings n known-small)

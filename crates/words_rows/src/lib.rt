@@ -568,14 +568,15 @@ const ROWS34: [u32; 128] = [
     0x00000000,
 ];
 
-// Those of a part that is given by its number, to be lent to a loop: an array that is indexed by its name is built anew at each lookup.
-pub fn rows_of(part: u64) -> [u32; 128]
-    ensures { λ r. ⌜ Rowed (partOf part) r ⌝ }
+// Those of a part that is given by its number, written to what a loop is lent: an array that is indexed by its name is built anew at each lookup.
+pub fn put_rows(rows: &mut [u32; 128], part: u64)
+    ensures { λ r. ⌜ Rowed (partOf part) (now (rows .exit)) ⌝ }
 {
     if part == 0 {
-        return ROWS24;
+        *rows = ROWS24;
+        return;
     }
-    ROWS34
+    *rows = ROWS34;
 }
 
 // The row of a part that is given by its number.

@@ -11,8 +11,12 @@ use Rattle.words_rows.specs.Rows.{rowAt, Known}
 use Rattle.words_state.specs.Packed.{Packed, Standing}
 
 module _ (c : ℕ) (w : List ℕ) (k : Packed c w) where
+  -- of the part that they name
+  pub named : Packed (getD w 27 0) w
+  named = rw (k .part-is) k
+
   pub stands : (row n : ℕ) → row ≡ rowAt (partOf c) n → Standing row n w
-  stands row n e = record { packed = rw (k .part-is) k; row-is = e ∙ ap (λ (c : ℕ). rowAt (partOf c) n) (sym (k .part-is)) }
+  stands row n e = record { packed = named; row-is = e ∙ ap (λ (c : ℕ). rowAt (partOf c) n) (sym (k .part-is)) }
 
   pub its-pins : (pins : ℕ) → pins ≡ 2 ^ partOf c .width - 1 → pins ≡ 2 ^ partOf (getD w 27 0) .width - 1
   its-pins pins e = e ∙ ap (λ (c : ℕ). 2 ^ partOf c .width - 1) (sym (k .part-is))

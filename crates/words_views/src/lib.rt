@@ -8,6 +8,7 @@ ghost use Rattle.bits.specs.Bits.{bit};
 ghost use Rattle.pins.specs.AllPins.{PinsOf, sourceAt, asserted};
 ghost use Rattle.pins.specs.OnePin.{inputOf, statusOf};
 ghost use Rattle.map.specs.Map.{kindAt, reserved, partOf};
+ghost use Rattle.map.specs.Map.Kind.{Input, InputStatus};
 ghost use Rattle.registers.specs.Registers.{levelled, fetched, drivenLow, drivenHigh, intAsserted};
 ghost use Rattle.registers.specs.Interrupt.{workedOut, shownKept};
 ghost use Rattle.words.specs.Words.{entryOf, coreIn, interruptIn, withInterrupt, wordsAt, pinIn, zipped, Fit, PinLevels, Holds};
@@ -152,18 +153,26 @@ pub fn entry(words: &[u64; 28], row: u32) -> u8
     }
 }
 
+// The byte that a register of input port bits shows: an input port register, or an input status register.
+pub fn show_inputs(words: &[u64; 28], row: u32) -> u8
+    ensures { λ b. ⌜ ((part n : ℕ) → reserved (partOf part) n ≡ false → row ≡ rowAt (partOf part) n
+        → (kindAt (partOf part) n ≡ Input → b ≡ shownKept (partOf part) (kindAt (partOf part) n) (coreIn (partOf part) (now (words .entry))) (interruptIn (now (words .entry))) n)
+        × (kindAt (partOf part) n ≡ InputStatus → b ≡ shownKept (partOf part) (kindAt (partOf part) n) (coreIn (partOf part) (now (words .entry))) (interruptIn (now (words .entry))) n)) ⌝ }
+{
+    ports::byte_of(inputs(words), words_rows::port(row))
+}
+
 // The byte that a fetch of the register shows: interrupt status is what is kept.
 pub fn show(words: &[u64; 28], row: u32) -> u8
     requires { ⌜ wordIn row < 28 ⌝ }
     ensures { λ b. ⌜ ((part n : ℕ) → reserved (partOf part) n ≡ false → row ≡ rowAt (partOf part) n → Fit (partOf part) (now (words .entry))
         → b ≡ shownKept (partOf part) (kindAt (partOf part) n) (coreIn (partOf part) (now (words .entry))) (interruptIn (now (words .entry))) n) ⌝ }
 {
-    let port = words_rows::port(row);
     let rule = words_rows::rule(row);
     match rule {
-        words_rows::INPUT => ports::byte_of(inputs(words), port),
-        words_rows::INPUT_STATUS => ports::byte_of(inputs(words), port),
-        words_rows::STATUS => ports::byte_of(words[STATUS], port),
+        words_rows::INPUT => show_inputs(words, row),
+        words_rows::INPUT_STATUS => show_inputs(words, row),
+        words_rows::STATUS => ports::byte_of(words[STATUS], words_rows::port(row)),
         _ => entry(words, row),
     }
 }

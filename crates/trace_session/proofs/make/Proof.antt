@@ -3,24 +3,25 @@ use borrow.Author.Needs.{needs}
 use mathlib.Core.Path.{ap}
 use Rattle.device_rules.specs.Device.{State, out}
 use Rattle.device_rules.specs.declared.Answer.the-variants.{Nothing}
-use Rattle.words_device.proofs.Naming.{named}
+use Rattle.words_state.proofs.Standing.{named}
 use Rattle.trace_session.proofs.Laws.{told-said, kept-line, tables-anew}
 use Rattle.trace_session.proofs.make.Statement.{statement}
 use Rattle.trace_session.proofs.make.Tie as tie
 
 refresh-requires : tie.Need-refresh-requires
-refresh-requires c κs = named _ _ (c .before .before .before .before .before .power-on .ensures .0)
+refresh-requires c κs = named _ _ (c .before .before .before .before .before .before .before .power-on .ensures .0)
 
 returns : tie.Need-returns
 returns c =
     let p = c .before .before in
     let r = p .before .before .before .before in
     let n = r .before .before .before .before in
-    let w = n .before in
-    let part = w .before .before .before .before .args .part in
-    let m = w .before .power-on .ensures in
+    let w = n .before .before in
+    let on = w .before .before in
+    let part = on .before .before .before .args .part in
+    let m = on .power-on .ensures in
     let b = r .refresh .ensures in
-    (told-said part _ _ Nothing (m .0) (ap (λ (s : State). out Nothing s) (m .1)) (kept-line part Nothing (m .0) (b .0) (b .1) (p .put-line .ensures)), (tables-anew part _ _ _ (m .0) (w .rows-of .ensures) (n .next-of .ensures), b .0))
+    (told-said part _ _ Nothing (m .0) (ap (λ (s : State). out Nothing s) (m .1)) (kept-line part Nothing (m .0) (b .0) (b .1) (p .put-line .ensures)), (tables-anew part _ _ _ (m .0) (w .put-rows .ensures) (n .put-next .ensures), b .0))
 
 pub make-spec : {M : Type 1} → statement M
 make-spec = tie.close (tie.spec (λ c κs. search needs) (λ c κs. search needs) (λ c κs. search needs) refresh-requires (λ c. search needs) (λ c κs. search needs) (λ c. search needs) returns)

@@ -3,7 +3,8 @@ use borrow.Author.Needs.{needs}
 use mathlib.Core.Path.{sym, _∙_}
 use borrow.Author.Tests.{not-true, not-false}
 use Rattle.bits.proofs.Decide.{clash}
-use Rattle.words_device.proofs.Naming.{named, its-tables}
+use Rattle.words_state.proofs.Standing.{named}
+use Rattle.words_device.proofs.Naming.{its-tables}
 use Rattle.words_burst.proofs.Calling.{enough, bad, nothing, no-image, image}
 use Rattle.words_burst.proofs.burst.Statement.{statement}
 use Rattle.words_burst.proofs.burst.Tie as tie
@@ -27,21 +28,21 @@ run-requires : tie.Need-run-requires
 run-requires c κs =
     let p = c .before .before .before .before .before in
     let n = p .before in
-    let r = n .before in
-    let l = r .before in
+    let r = n .before .before in
+    let l = r .before .before in
     let f = l .before in
     let asked = f .before .before in
     let t = asked .before in
     let e = enough _ _ _ (sym (t .before .is-bad .ensures) ∙ t .if1 .left) in
     let k = f .fits2 .ensures .0 (not-false _ (l .if3 .left)) in
-    let tables = its-tables _ _ k (record { rowed = r .rows-of .ensures; stepping = n .next-of .ensures; pins-are = p .pins-of .ensures }) in
+    let tables = its-tables _ _ k (record { rowed = r .put-rows .ensures; stepping = n .put-next .ensures; pins-are = p .pins-of .ensures }) in
     (named _ _ k, tables, e .0, e .1)
 
 returns-4 : tie.Need-returns-4
 returns-4 c =
     let r = c .before .before in
     let tables = r .before .before .before .before in
-    let l = tables .before .before .before .before .before in
+    let l = tables .before .before .before .before .before .before .before in
     let f = l .before in
     let asked = f .before .before in
     let t = asked .before in

@@ -4,7 +4,8 @@ use mathlib.Core.Path.{sym, _∙_}
 use Prim.Native.Nat.{_-_}
 use native.Mathlib.Omega.{arith}
 use lib.ListN.{getD}
-use Rattle.words_device.proofs.Naming.{named, its-tables}
+use Rattle.words_state.proofs.Standing.{named}
+use Rattle.words_device.proofs.Naming.{its-tables}
 use Rattle.words_burst.proofs.Running.{answered, Running, begin, turn, stop, finish}
 use Rattle.words_burst.proofs.run.Statement.{statement}
 use Rattle.words_burst.proofs.run.Tie as tie

@@ -4,10 +4,10 @@ use mathlib.Core.Path.{sym, ap}
 use Prim.Native.Nat.{ℕ}
 use lib.ListN.{getD}
 use Rattle.map.specs.Map.{partOf}
+use Rattle.map.proofs.Onward.{known-small}
 use Rattle.device_rules.specs.Refusals.{stepped}
 use Rattle.words_state.specs.Packed.{stateIn}
 use Rattle.words_state.proofs.Left.{by-rule}
-use Rattle.words_state.proofs.Judging.{bounded-of, row-there}
 use Rattle.words_state.proofs.Standing.{stands, its-pins}
 use Rattle.words_device.proofs.event_by.Statement.{statement}
 use Rattle.words_device.proofs.event_by.Tie as tie
@@ -32,6 +32,12 @@ returns c =
     by-rule (c .command .ensures _ (s .pre .0) (yes .1) (r .row-in .ensures (getD w 27 0) (t .rowed) (t .stepping)))
     (ap (λ (n : ℕ). stepped p (stateIn p w) n (s .args .arg)) (sym (yes .0)))
 
+row-in-requires-2 : tie.Need-row-in-requires-2
+row-in-requires-2 c κs =
+    let s = c .before .before .before .before in
+    let w = s .args .words .now in
+    known-small (partOf (getD w 27 0)) (getD w 21 0) (s .pre .0 .pointer-known)
+
 event-requires : tie.Need-event-requires
 event-requires c κs =
     let r = c .before in
@@ -41,7 +47,7 @@ event-requires c κs =
     let w = s .args .words .now in
     let k = s .pre .0 in
     let t = s .pre .1 in (
-      stands _ w k _ _ (row-there _ (k .known-part) w (bounded-of _ w k) _ (r .row-in2 .ensures (getD w 27 0) (t .rowed) (t .stepping))),
+      stands _ w k _ _ (r .row-in2 .ensures (getD w 27 0) (t .rowed) (t .stepping)),
       its-pins _ w k _ (t .pins-are),
       which .is-command .ensures .1 (else .if1 .left),
     )
@@ -55,7 +61,7 @@ returns-2 c =
     let w = s .args .words .now in
     let k = s .pre .0 in
     let t = s .pre .1 in
-    c .event .ensures _ k (t .pins-are) (row-there _ (k .known-part) w (bounded-of _ w k) _ (r .row-in2 .ensures (getD w 27 0) (t .rowed) (t .stepping)))
+    c .event .ensures _ k (t .pins-are) (r .row-in2 .ensures (getD w 27 0) (t .rowed) (t .stepping))
     (which .is-command .ensures .1 (else .if1 .left))
 
 pub event-by-spec : {M : Type 1} → statement M
@@ -67,6 +73,6 @@ event-by-spec =
     command-requires
     returns
     (λ c. search needs)
-    (λ c κs. search needs)
+    row-in-requires-2
     event-requires
     returns-2)

@@ -17,57 +17,39 @@ use Rattle.words_views.proofs.show.Statement.{statement}
 use Rattle.words_views.proofs.show.Tie as tie
 
 returns : tie.Need-returns
-unfolding shownAs
 returns c =
     λ part n known e fit.
-    let b = c .before .before .before in
-    let start = b .before .before in
-    let a = start .args in
-    let p = partOf part in
-    let w = a .words .now in
+    let b = c .before .before in
+    let a = b .before .args in
     let hn : n < 128 = known-small (a .row) part n known e in
-    let er = b .rule .ensures part n hn e in
-    let one = paired-by part n _ hn er 1 (c .before .before .match .keys1) in
-    shown-else p (sound part) n hn w (ap (λ (k : Kind). eqb (code k) (code Status)) (its-kind part n _ hn er Input (c .before .before .match .keys1)))
-    (shown-port p (sound part) n hn w Input (its-kind part n _ hn er Input (c .before .before .match .keys1)) refl refl _
-    (b .before .port .ensures .0 part n hn e one) (λ i. inputOf (onePin p (coreIn p w) i)) refl _
-    (λ i l. c .before .inputs .ensures i (omega (arith, l, sound part .port-few)) ∙ sym (input-read p (sound part) w i l)) (c .byte-of .ensures))
+    c .show-inputs .ensures part n known e .0 (its-kind part n _ hn (b .rule .ensures part n hn e) Input (c .before .match .keys1))
 
 returns-2 : tie.Need-returns-2
-unfolding shownAs
 returns-2 c =
     λ part n known e fit.
-    let b = c .before .before .before in
-    let start = b .before .before in
-    let a = start .args in
-    let p = partOf part in
-    let w = a .words .now in
+    let b = c .before .before in
+    let a = b .before .args in
     let hn : n < 128 = known-small (a .row) part n known e in
-    let er = b .rule .ensures part n hn e in
-    let one = paired-by part n _ hn er 3 (c .before .before .match .keys2) in
-    shown-else p (sound part) n hn w (ap (λ (k : Kind). eqb (code k) (code Status)) (its-kind part n _ hn er InputStatus (c .before .before .match .keys2)))
-    (shown-port p (sound part) n hn w InputStatus (its-kind part n _ hn er InputStatus (c .before .before .match .keys2)) refl refl _
-    (b .before .port .ensures .0 part n hn e one) (λ i. inputOf (onePin p (coreIn p w) i)) refl _
-    (λ i l. c .before .inputs2 .ensures i (omega (arith, l, sound part .port-few)) ∙ sym (input-read p (sound part) w i l)) (c .byte-of2 .ensures))
+    c .show-inputs2 .ensures part n known e .1 (its-kind part n _ hn (b .rule .ensures part n hn e) InputStatus (c .before .match .keys2))
 
 returns-3 : tie.Need-returns-3
 returns-3 c =
     λ part n known e fit.
-    let b = c .before .before .before in
-    let start = b .before .before in
-    let a = start .args in
+    let port = c .before in
+    let here = port .before .before in
+    let b = here .before in
+    let a = b .before .args in
     let hn : n < 128 = known-small (a .row) part n known e in
     let er = b .rule .ensures part n hn e in
-    let one = paired-by part n _ hn er 2 (c .before .before .match .keys3) in
-    shown-status (partOf part) (sound part) n hn (a .words .now) (its-kind part n _ hn er Status (c .before .before .match .keys3)) _
-    (b .before .port .ensures .0 part n hn e one) (c .byte-of3 .ensures)
+    let one = paired-by part n _ hn er 2 (here .match .keys3) in
+    shown-status (partOf part) (sound part) n hn (a .words .now) (its-kind part n _ hn er Status (here .match .keys3)) _
+    (port .port .ensures .0 part n hn e one) (c .byte-of .ensures)
 
 returns-4 : tie.Need-returns-4
 returns-4 c =
     λ part n known e fit.
     let b = c .before .before in
-    let start = b .before .before in
-    let a = start .args in
+    let a = b .before .args in
     let p = partOf part in
     let w = a .words .now in
     let hn : n < 128 = known-small (a .row) part n known e in
@@ -85,10 +67,8 @@ show-spec =
     (λ c κs. search needs)
     (λ c κs. search needs)
     (λ c κs. search needs)
-    (λ c κs. search needs)
-    (λ c κs. search needs)
-    (λ c κs. search needs)
     (λ c. search needs)
+    (λ c κs. search needs)
     (λ c κs. search needs)
     (λ c κs. search needs)
     returns

@@ -6,7 +6,8 @@ use Rattle.map.specs.Map.{partOf}
 use Rattle.device_rules.specs.Device.{State, out}
 use Rattle.device_rules.specs.Held.{stateOf}
 use Rattle.device_rules.specs.Refusals.{stepped}
-use Rattle.words_device.proofs.Naming.{named, obeyed}
+use Rattle.words_state.proofs.Standing.{named}
+use Rattle.words_device.proofs.Naming.{obeyed}
 use Rattle.words_images.proofs.Packing.{unpacked}
 use Rattle.device.proofs.Asking.{no-image, not-stepped, ruled}
 use Rattle.device.proofs.Device.step.Statement.{statement}

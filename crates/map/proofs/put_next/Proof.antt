@@ -1,10 +1,10 @@
--- `map::next_of`: the group rule tested once over the whole table of each part, which antt computes. Assumes nothing.
+-- `map::put_next`: the group rule tested once over the whole table of each part, which antt computes. Assumes nothing.
 use mathlib.Core.Path.{sym}
 use Rattle.bits.proofs.Decide.{each}
 use Rattle.map.specs.Map.{kindAt, reserved, next}
 use Rattle.map.proofs.Parts.{sister}
-use Rattle.map.proofs.next_of.Statement.{statement}
-use Rattle.map.proofs.next_of.Tie as tie
+use Rattle.map.proofs.put_next.Statement.{statement}
+use Rattle.map.proofs.put_next.Tie as tie
 
 returns : tie.Need-returns
 unfolding kindAt next reserved
@@ -14,5 +14,5 @@ returns-2 : tie.Need-returns-2
 unfolding kindAt next reserved
 returns-2 c = rw (sym (sister (c .before .args .part) (c .if1 .left))) (each 128 _ _ tt)
 
-pub next-of-spec : {M : Type 1} → statement M
-next-of-spec = tie.close (tie.spec returns returns-2)
+pub put-next-spec : {M : Type 1} → statement M
+put-next-spec = tie.close (tie.spec returns returns-2)
