@@ -7,7 +7,7 @@ ghost use Rattle.words_state.specs.Packed.{answerAt};
 ghost use Rattle.host_words.specs.Host.{toldAs, writesAfter};
 use planner_promise::Planned;
 
-// The last kind of an answer: what is above is a refusal's.
+// The kind of a byte read, and the last of an answer: what is above is a refusal's.
 const READ: u32 = 3;
 
 // An answer that is given as a number, told as its kind and its byte; a refusal as its number alone.
@@ -19,8 +19,11 @@ pub fn tell(number: u32, told: &mut [u8; 2]) -> u32
     if READ < kind {
         return number / 256 % 256;
     }
-    let byte = words_state::byte_read(number);
-    *told = [kind as u8, byte];
+    if kind == READ {
+        *told = [kind as u8, (number / 256 % 256) as u8];
+        return 0;
+    }
+    *told = [kind as u8, 0];
     0
 }
 

@@ -40,6 +40,9 @@ or-zero a b e =
 zero-or : {a b : ℕ} → a ≡ 0 → b ≡ 0 → bitOr a b ≡ 0
 zero-or p q = ap₂ bitOr p q
 
+xor-zero : (a b : ℕ) → bitXor a b ≡ 0 → a ≡ b
+xor-zero a b e = omega (arith, e, xor-add-and a b, and-le-l a b, and-le-r a b)
+
 -- no bit of x past those of a mask
 without-zero : (x m : ℕ) → without x m ≡ 0 → (i : ℕ) → bit m i ≡ false → bit x i ≡ false
 without-zero x m e i h = go (bit x i) (ap (λ (b : Bool). bit x i && not b) (sym h) ∙ sym (bit-without x m i) ∙ dark-of-zero (without x m) e i)
@@ -138,9 +141,10 @@ module _ (c : ℕ) (w : List ℕ) (spare stale : ℕ) where
   abbrev Odd : ℕ
   Odd = bitOr (bitOr (bitOr (bitOr (bitOr (getD w 21 0 / 2 ^ 7) (getD w 22 0 / 2 ^ 3)) (getD w 23 0 / 2 ^ 2)) (getD w 24 0 / 2 ^ 1)) (getD w 25 0)) (getD w 26 0)
 
-  pub tested : Spares → Stale → getD w 27 0 ≡ c → bitOr (bitOr spare Odd) stale ≡ 0 → Bounded c w
-  tested fits says part e =
-      let all = or-zero (bitOr spare Odd) stale e in
+  pub tested : Spares → Stale → bitOr (bitOr (bitOr spare Odd) stale) (bitXor (getD w 27 0) c) ≡ 0 → Bounded c w
+  tested fits says e =
+      let its = or-zero (bitOr (bitOr spare Odd) stale) (bitXor (getD w 27 0) c) e in
+      let all = or-zero (bitOr spare Odd) stale (its .0) in
       let both = or-zero spare Odd (all .0) in
       let fit = fits .0 (both .0) in
       let e5 = or-zero (bitOr (bitOr (bitOr (bitOr (getD w 21 0 / 2 ^ 7) (getD w 22 0 / 2 ^ 3)) (getD w 23 0 / 2 ^ 2)) (getD w 24 0 / 2 ^ 1)) (getD w 25 0)) (getD w 26 0) (both .1) in
@@ -156,10 +160,10 @@ module _ (c : ℕ) (w : List ℕ) (spare stale : ℕ) where
         mode-small = let m : getD w 24 0 % 2 < 2 = mod-lt (getD w 24 0) (omega arith) in omega (arith, div-add-mod' (getD w 24 0) 2, e3 .1);
         bus-small = let m : getD w 22 0 % 8 < 8 = mod-lt (getD w 22 0) (omega arith) in omega (arith, div-add-mod' (getD w 22 0) 8, e1 .1);
         choice-small = let m : getD w 23 0 % 4 < 4 = mod-lt (getD w 23 0) (omega arith) in omega (arith, div-add-mod' (getD w 23 0) 4, e2 .1);
-        part-is = part;
+        part-is = xor-zero (getD w 27 0) c (its .1);
       }
 
-  pub passes : Spares → Stale → Bounded c w → bitOr (bitOr spare Odd) stale ≡ 0
+  pub passes : Spares → Stale → Bounded c w → bitOr (bitOr (bitOr spare Odd) stale) (bitXor (getD w 27 0) c) ≡ 0
   passes fits says b =
       let h21 = b .pointer-small in
       let h22 = b .bus-small in
@@ -169,14 +173,12 @@ module _ (c : ℕ) (w : List ℕ) (spare stale : ℕ) where
       let q : getD w 22 0 / 8 ≡ 0 = omega (arith, div-add-mod' (getD w 22 0) 8) in
       let r : getD w 23 0 / 4 ≡ 0 = omega (arith, div-add-mod' (getD w 23 0) 4) in
       let m : getD w 24 0 / 2 ≡ 0 = omega (arith, div-add-mod' (getD w 24 0) 2) in
-      zero-or (zero-or (fits .1 (b .fit))
+      zero-or (zero-or (zero-or (fits .1 (b .fit))
       (zero-or (zero-or (zero-or (zero-or (zero-or p q) r) m) (b .none 25 refl)) (b .none 26 refl)))
-      (says (b .fit) .1 (b .right))
+      (says (b .fit) .1 (b .right)))
+      (ap (bitXor (getD w 27 0)) (sym (b .part-is)) ∙ xor-self (getD w 27 0))
 
 -- ---- what is kept, compared bit by bit with what is worked out
-xor-zero : (a b : ℕ) → bitXor a b ≡ 0 → a ≡ b
-xor-zero a b e = omega (arith, e, xor-add-and a b, and-le-l a b, and-le-r a b)
-
 pub stale-zero : (a b x y : ℕ) → bitOr (bitXor a x) (bitXor b y) ≡ 0 → (a ≡ x) × (b ≡ y)
 stale-zero a b x y e =
     let both = or-zero (bitXor a x) (bitXor b y) e in

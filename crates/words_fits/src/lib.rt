@@ -77,10 +77,7 @@ fn bounded(words: &[u64; 28], part: u64, spare: u64) -> bool
     requires { ⌜ (spare ≡ 0 → Fit (partOf part) (now words)) × (Fit (partOf part) (now words) → spare ≡ 0) ⌝ }
     ensures { λ r. ⌜ (r ≡ true → Bounded part (now (words .entry))) × (Bounded part (now (words .entry)) → r ≡ true) ⌝ }
 {
-    if words[PART] != part {
-        return false;
-    }
-    spare | odd(words) | stale(words) == 0
+    spare | odd(words) | stale(words) | (words[PART] ^ part) == 0
 }
 
 // The row of the register at the pointer, if the words are the packing of a well-formed image of the 24-pin part; else 0.
