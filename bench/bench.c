@@ -48,6 +48,8 @@ static void same_state(const struct ghixramel *ours, const struct peer *peer, si
     same(image.status, peer->status, "status sets", place);
     same(image.line, peer->line, "lines", place);
     same(image.mode, peer->mode, "modes", place);
+    same(image.number, peer->number, "devices' numbers", place);
+    same(image.place, peer->place, "places of the ID", place);
     if (memcmp(image.registers, peer->registers, sizeof peer->registers) != 0)
         differ("registers", place);
 }
@@ -69,7 +71,7 @@ static void check_steps(void)
 {
     struct ghixramel ours = {0};
     struct peer peer = {0};
-    same(ghixramel_power_on(&ours, CHOICE, LEVELS), peer_power_on(&peer, CHOICE, LEVELS), "devices made", 0);
+    same(ghixramel_power_on(&ours, CHOICE, LEVELS, NUMBER), peer_power_on(&peer, CHOICE, LEVELS, NUMBER), "devices made", 0);
     for (size_t i = 0; i < EVENTS; i++) {
         uint8_t our_answer[2] = {0, 0}, peer_answer[2] = {0, 0};
         uint32_t refused = ghixramel_step(&ours, traffic.events[i].kind, traffic.events[i].argument, our_answer);
@@ -85,7 +87,7 @@ static void check_steps(void)
 static int64_t time_library(struct ghixramel *device, uint64_t *sum)
 {
     uint8_t answer[2] = {0, 0};
-    ghixramel_power_on(device, CHOICE, LEVELS);
+    ghixramel_power_on(device, CHOICE, LEVELS, NUMBER);
     int64_t began = now();
     for (int times = 0; times < TIMES_OVER; times++)
         for (size_t i = 0; i < EVENTS; i++) {
@@ -98,7 +100,7 @@ static int64_t time_library(struct ghixramel *device, uint64_t *sum)
 static int64_t time_peer(struct peer *device, uint64_t *sum)
 {
     uint8_t answer[2] = {0, 0};
-    peer_power_on(device, CHOICE, LEVELS);
+    peer_power_on(device, CHOICE, LEVELS, NUMBER);
     int64_t began = now();
     for (int times = 0; times < TIMES_OVER; times++)
         for (size_t i = 0; i < EVENTS; i++) {
@@ -149,7 +151,7 @@ static void check_bursts(void)
 {
     struct ghixramel ours = {0};
     struct peer peer = {0};
-    same(ghixramel_power_on(&ours, CHOICE, LEVELS), peer_power_on(&peer, CHOICE, LEVELS), "devices made", 0);
+    same(ghixramel_power_on(&ours, CHOICE, LEVELS, NUMBER), peer_power_on(&peer, CHOICE, LEVELS, NUMBER), "devices made", 0);
     for (size_t first = 0; first < EVENTS; first += GHIXRAMEL_MOST_EVENTS) {
         uint8_t our_answers[2 * GHIXRAMEL_MOST_EVENTS] = {0}, peer_answers[2 * GHIXRAMEL_MOST_EVENTS] = {0};
         same(burst_of_library(&ours, first, burst_at(first), our_answers), 0, "bursts and their events", first);
@@ -183,8 +185,8 @@ static void bench_bursts(void)
     int64_t our_best = 0, peer_best = 0;
     for (size_t round = 0; round < ROUNDS; round++) {
         uint64_t our_sum = 0, peer_sum = 0;
-        ghixramel_power_on(&ours, CHOICE, LEVELS);
-        peer_power_on(&peer, CHOICE, LEVELS);
+        ghixramel_power_on(&ours, CHOICE, LEVELS, NUMBER);
+        peer_power_on(&peer, CHOICE, LEVELS, NUMBER);
         keep_best(&our_best, time_bursts(burst_of_library, &ours, &our_sum));
         keep_best(&peer_best, time_bursts(burst_of_peer, &peer, &peer_sum));
         same(our_sum, peer_sum, "sums of answers to bursts", round);
@@ -247,7 +249,7 @@ static void bench_plans(void)
 static int64_t time_sister(struct ghixramel *device, uint64_t *refused)
 {
     uint8_t answer[2] = {0, 0};
-    ghixramel34_power_on(device, CHOICE, LEVELS);
+    ghixramel34_power_on(device, CHOICE, LEVELS, NUMBER);
     int64_t began = now();
     for (int times = 0; times < TIMES_OVER; times++)
         for (size_t i = 0; i < EVENTS; i++)

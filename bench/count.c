@@ -40,7 +40,7 @@ int main(void)
     make_events();
     make_pairs();
     struct ghixramel device = {0}, sister = {0};
-    refusals += ghixramel_power_on(&device, CHOICE, LEVELS) + ghixramel34_power_on(&sister, CHOICE, LEVELS);
+    refusals += ghixramel_power_on(&device, CHOICE, LEVELS, NUMBER) + ghixramel34_power_on(&sister, CHOICE, LEVELS, NUMBER);
     all_steps(device, &traffic, ghixramel_step);
     all_steps(sister, &traffic34, ghixramel34_step);
     all_bursts(device, &traffic, ghixramel_burst);

@@ -6,7 +6,7 @@
 
 #include <ghixramel.h>
 
-enum { EVENTS = 100000, PAIRS = 10000, SEED = 1, CHOICE = 2, LEVELS = 0x00F0F0 };
+enum { EVENTS = 100000, PAIRS = 10000, SEED = 1, CHOICE = 2, LEVELS = 0x00F0F0, NUMBER = 0x123456 };
 
 /* Events, and the same as a burst has them. */
 struct traffic {

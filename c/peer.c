@@ -3,12 +3,14 @@
 #include <libc.h>
 
 enum { PINS = 24, ALL_PINS = (1 << PINS) - 1 };
-enum { IDLE, OPENED, CHOSEN, FILLING, SENDING, CALL, ARMED, DEAF };
+enum { IDLE, OPENED, CHOSEN, FILLING, SENDING, CALL, ARMED, DEAF, ASKING, NAMED, REOPENED, TELLING };
 enum { BAD_KIND = 1, BAD_ARGUMENT = 2, BAD_IMAGE = 3 };
-enum { GENERAL_CALL = 0x00, SOFTWARE_RESET = 0x06, FIRST_ADDRESS = 0x20, STRAY_BYTE = 0xFF };
+enum { GENERAL_CALL = 0x00, SOFTWARE_RESET = 0x06, FIRST_ADDRESS = 0x20, ASK_FOR_ID = 0xF8, TELL_ID = 0xF9, STRAY_BYTE = 0xFF };
 enum { IN_GROUP, OVER_MAP, MODES };
 /* A command byte: the register's number, and above it the mode. */
 enum { NUMBER_BITS = 7, NUMBERS = 1 << NUMBER_BITS };
+/* The device's own number is its ID. */
+enum { ID_BYTES = 3, LARGEST_ID = (1 << 8 * ID_BYTES) - 1 };
 
 /* First register of each group that the pins' rules read. */
 enum {
@@ -156,6 +158,7 @@ OUT_OF_LINE void reset(struct peer *d)
     d->pointer = 0;
     d->mode = IN_GROUP;
     d->bus = IDLE;
+    d->place = 0;
     settle(d, ALL_PINS);
 }
 
@@ -242,16 +245,36 @@ static uint8_t turn_deaf(struct peer *d)
     return PEER_NAK;
 }
 
+static uint32_t address_to_write(const struct peer *d)
+{
+    return 2 * (FIRST_ADDRESS + (uint32_t)d->choice);
+}
+
 static uint8_t take_address(struct peer *d, uint32_t value)
 {
-    uint32_t to_write = 2 * (FIRST_ADDRESS + (uint32_t)d->choice);
-    if (value == to_write)
+    if (value == address_to_write(d))
         return acknowledge(d, CHOSEN);
-    if (value == to_write + 1)
+    if (value == address_to_write(d) + 1)
         return acknowledge(d, SENDING);
     if (value == GENERAL_CALL)
         return acknowledge(d, CALL);
+    if (value == ASK_FOR_ID)
+        return acknowledge(d, ASKING);
     return turn_deaf(d);
+}
+
+/* Whose ID is asked for: the address byte, its lowest bit either way. */
+OUT_OF_LINE uint8_t take_name(struct peer *d, uint32_t value)
+{
+    return (value & ~1u) == address_to_write(d) ? acknowledge(d, NAMED) : turn_deaf(d);
+}
+
+OUT_OF_LINE uint8_t take_address_again(struct peer *d, uint32_t value)
+{
+    if (value != TELL_ID)
+        return take_address(d, value);
+    d->place = 0;
+    return acknowledge(d, TELLING);
 }
 
 /* One that is not acknowledged leaves pointer and mode. */
@@ -288,6 +311,10 @@ static uint8_t take_byte(struct peer *d, uint32_t value)
         return take_data(d, value);
     case CALL:
         return value == SOFTWARE_RESET ? acknowledge(d, ARMED) : turn_deaf(d);
+    case ASKING:
+        return take_name(d, value);
+    case REOPENED:
+        return take_address_again(d, value);
     case IDLE:
         return PEER_NAK;
     default:
@@ -295,16 +322,43 @@ static uint8_t take_byte(struct peer *d, uint32_t value)
     }
 }
 
+/* A fetch of no register: where the ID is told its highest byte first, and after the lowest the highest again. */
+OUT_OF_LINE uint8_t tell_byte(struct peer *d, int acknowledged)
+{
+    if (d->bus != TELLING)
+        return STRAY_BYTE;
+    uint8_t told = (uint8_t)(d->number >> 8 * (ID_BYTES - 1 - d->place));
+    if (acknowledged)
+        d->place = (uint8_t)((d->place + 1) % ID_BYTES);
+    else
+        d->bus = DEAF;
+    return told;
+}
+
 static uint8_t give_byte(struct peer *d, int acknowledged)
 {
     if (d->bus != SENDING)
-        return STRAY_BYTE;
+        return tell_byte(d, acknowledged);
     uint8_t shown = fetch_register(d, d->pointer);
     if (acknowledged)
         step_pointer(d);
     else
         d->bus = DEAF;
     return shown;
+}
+
+/* A branch and no choice of two numbers, so that every other START need not wait for the bus state before it. */
+OUT_OF_LINE void reopen(struct peer *d)
+{
+    d->bus = REOPENED;
+}
+
+static void start(struct peer *d)
+{
+    if (d->bus == NAMED || d->bus == REOPENED)
+        reopen(d);
+    else
+        d->bus = OPENED;
 }
 
 static void stop(struct peer *d)
@@ -341,10 +395,14 @@ static int file_broken(const uint8_t registers[128])
     return wrong != 0;
 }
 
+/* The number is judged with the pin sets. */
+_Static_assert(LARGEST_ID == ALL_PINS, "a number has as many bits as a pin set");
+
 static int image_broken(const struct peer *d)
 {
-    return ((d->level | d->reference | d->held | d->edge) > ALL_PINS) | (rules[d->pointer] == RESERVED) | (d->bus > DEAF) |
-           (d->choice > 3) | (d->mode > OVER_MAP) | file_broken(d->registers) | (d->status != status_bits(d)) | (d->line != (d->status == 0));
+    return ((d->level | d->reference | d->held | d->edge | d->number) > ALL_PINS) | (rules[d->pointer] == RESERVED) | (d->bus > TELLING) |
+           (d->choice > 3) | (d->mode > OVER_MAP) | (d->place >= ID_BYTES) | file_broken(d->registers) |
+           (d->status != status_bits(d)) | (d->line != (d->status == 0));
 }
 
 #endif
@@ -364,7 +422,7 @@ uint32_t peer_step(struct peer *d, uint32_t kind, uint64_t argument, uint8_t ans
 #endif
     switch (kind) {
     case PEER_START:
-        d->bus = OPENED;
+        start(d);
         return answered(answer, PEER_NOTHING, 0);
     case PEER_STOP:
         stop(d);
@@ -390,13 +448,14 @@ uint32_t peer_step(struct peer *d, uint32_t kind, uint64_t argument, uint8_t ans
     }
 }
 
-uint32_t peer_power_on(struct peer *d, uint32_t choice, uint64_t levels)
+uint32_t peer_power_on(struct peer *d, uint32_t choice, uint64_t levels, uint64_t number)
 {
-    if (choice > 3 || levels > ALL_PINS)
+    if (choice > 3 || levels > ALL_PINS || number > LARGEST_ID)
         return BAD_ARGUMENT;
     d->level = levels;
     d->reference = d->held = d->edge = d->status = 0;
     d->choice = (uint8_t)choice;
+    d->number = number;
     reset(d);
     return 0;
 }

@@ -1,9 +1,10 @@
 /* One step of the peer on a state image a line: registers, four pin sets, pointer, bus state, address choice, status, line,
- * mode, kind and argument, in lowercase hex parted by tabs. Answered as the trace program does, then the image after. */
+ * mode, number, place, kind and argument, in lowercase hex parted by tabs. Answered as the trace program does, then the image
+ * after. */
 #include "image_text.h"
 #include "peer_text.h"
 
-enum { LINE_BYTES = 382, MOST_PROBE_BYTES = 400 };
+enum { LINE_BYTES = 394, MOST_PROBE_BYTES = 400 };
 
 struct probe {
     struct peer device;
@@ -38,7 +39,15 @@ static const uint8_t *kept_fields(const uint8_t *at, struct peer *device)
     return at;
 }
 
-/* The fields have fixed widths, so a line of the right length with a tab after each of twelve fields has no room for more. */
+static const uint8_t *id_fields(const uint8_t *at, struct peer *device)
+{
+    uint64_t place = 0;
+    at = field(field(at, 8, &device->number), 2, &place);
+    device->place = (uint8_t)place;
+    return at;
+}
+
+/* The fields have fixed widths, so a line of the right length with a tab after each of fourteen fields has no room for more. */
 static int read_probe(const uint8_t *line, size_t length, struct probe *probe)
 {
     uint8_t text[LINE_BYTES + 1];
@@ -49,7 +58,7 @@ static int read_probe(const uint8_t *line, size_t length, struct probe *probe)
     text[LINE_BYTES] = '\n';
     const uint8_t *at = pins_fields(registers_field(text, probe->device.registers), &probe->device);
     at = kept_fields(bus_fields(at, &probe->device), &probe->device);
-    at = field(at, 8, &kind);
+    at = field(id_fields(at, &probe->device), 8, &kind);
     probe->kind = (uint32_t)kind;
     return field(at, 16, &probe->argument) != NULL;
 }
@@ -70,7 +79,9 @@ static uint8_t *put_image(uint8_t *to, const struct peer *device)
     to = put_hex(put_byte(to, '\t'), device->bus, 2);
     to = put_hex(put_byte(to, '\t'), device->choice, 2);
     to = put_hex(put_byte(put_set(to, device->status), '\t'), device->line, 2);
-    return put_hex(put_byte(to, '\t'), device->mode, 2);
+    to = put_hex(put_byte(to, '\t'), device->mode, 2);
+    to = put_hex(put_byte(to, '\t'), (uint32_t)device->number, 8);
+    return put_hex(put_byte(to, '\t'), device->place, 2);
 }
 
 static uint8_t *put_step(uint8_t *to, struct probe *probe)

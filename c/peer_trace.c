@@ -6,6 +6,8 @@
 #endif
 
 enum { MOST_LINE_BYTES = 32, DEVICE_LINE = 6, DEVICE_BYTES = sizeof(PEER_DEVICE "\t") - 1 };
+/* A log says no number of a device. */
+enum { LOGGED_NUMBER = 0 };
 
 struct line {
     uint32_t kind; /* an event's kind, or DEVICE_LINE */
@@ -73,7 +75,7 @@ static inline int carry_out(struct peer *device, int *made, const struct line *l
 {
     if (line->kind != DEVICE_LINE)
         return *made && peer_step(device, line->kind, line->argument, answer) == 0;
-    if (peer_power_on(device, line->choice, line->argument) != 0)
+    if (peer_power_on(device, line->choice, line->argument, LOGGED_NUMBER) != 0)
         return 0;
     *made = 1;
     answer[0] = PEER_NOTHING;

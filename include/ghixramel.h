@@ -41,6 +41,8 @@ struct ghixramel_image {
     uint64_t status;        /* the pins whose status bit is 1 */
     uint64_t line;          /* INT's level: 1 quiet, 0 asserted */
     uint64_t mode;          /* how the pointer steps: 0 in its group, 1 over the whole map */
+    uint64_t number;        /* the device's own, below 2^24, which is read as its Device ID */
+    uint64_t place;         /* the byte of it that is read next, 0 to 2, 0 the highest */
 };
 
 /* C99 has no static assertion: an array of -1 bytes stops its compiler, so that no processor's layout goes unseen. */
@@ -62,14 +64,16 @@ GHIXRAMEL_ASSERT(choice, offsetof(struct ghixramel_image, choice) == 176);
 GHIXRAMEL_ASSERT(status, offsetof(struct ghixramel_image, status) == 184);
 GHIXRAMEL_ASSERT(line, offsetof(struct ghixramel_image, line) == 192);
 GHIXRAMEL_ASSERT(mode, offsetof(struct ghixramel_image, mode) == 200);
-GHIXRAMEL_ASSERT(image_size, sizeof(struct ghixramel_image) == 208);
+GHIXRAMEL_ASSERT(number, offsetof(struct ghixramel_image, number) == 208);
+GHIXRAMEL_ASSERT(place, offsetof(struct ghixramel_image, place) == 216);
+GHIXRAMEL_ASSERT(image_size, sizeof(struct ghixramel_image) == 224);
 #undef GHIXRAMEL_ASSERT
 
 /* Refusals. */
 enum {
     GHIXRAMEL_DONE = 0,
     GHIXRAMEL_BAD_KIND = 1,     /* event kind above 5 */
-    GHIXRAMEL_BAD_ARGUMENT = 2, /* byte, acknowledge bit, levels, address choice, register number or a burst's third word out of range */
+    GHIXRAMEL_BAD_ARGUMENT = 2, /* byte, acknowledge bit, levels, choice, number of a device or register, or a burst's third word out of range */
     GHIXRAMEL_BAD_IMAGE = 3,    /* broken: a number out of range, an entry where none is stored, a wrong status or line, or words of no image */
     GHIXRAMEL_NO_QUIET_WAY = 4, /* no list of writes gets there without disturbing a pin */
     GHIXRAMEL_BAD_SETTING = 5,  /* start or goal not ten bytes (the sister: sixteen), or with a bit that does not exist, as a 5C over 7 */
@@ -104,14 +108,23 @@ enum {
     GHIXRAMEL_SENDING = 4,
     GHIXRAMEL_CALL = 5,
     GHIXRAMEL_ARMED = 6,
-    GHIXRAMEL_DEAF = 7
+    GHIXRAMEL_DEAF = 7,
+    GHIXRAMEL_ASKING = 8,    /* F8h was seen: the Device ID of some device is asked for */
+    GHIXRAMEL_NAMED = 9,     /* then this one's address byte */
+    GHIXRAMEL_REOPENED = 10, /* then START again */
+    GHIXRAMEL_TELLING = 11   /* then F9h: a fetch gives a byte of the number */
 };
 
 /* A setting is ten bytes, for the registers 04 05 06 0C 0D 0E 5C 70 71 72 in this order. */
 enum { GHIXRAMEL_SETTING_BYTES = 10, GHIXRAMEL_MOST_WRITES = 16, GHIXRAMEL_PLAN_BYTES = 32 };
 
-/* A device at power-on, at address choice 0 to 3, with these pin levels; what its memory held does not matter. Refusal 2. */
-uint32_t ghixramel_power_on(struct ghixramel *device, uint32_t choice, uint64_t levels);
+/* A device's number. A host's inventory reads its bytes, the highest first, and after the last the first again: START, F8h,
+ * the device's address byte with either lowest bit, START, F9h, and fetches, the last of them not acknowledged. */
+enum { GHIXRAMEL_NUMBER_BYTES = 3, GHIXRAMEL_LARGEST_NUMBER = 0xFFFFFF };
+
+/* A device at power-on, at address choice 0 to 3, with these pin levels and this number, which no reset changes; what its
+ * memory held does not matter. Refusal 2. */
+uint32_t ghixramel_power_on(struct ghixramel *device, uint32_t choice, uint64_t levels, uint64_t number);
 
 /* One event. answer[0] is the answer's kind, answer[1] the byte read, else 0. Refusals 3, 1, 2. */
 uint32_t ghixramel_step(struct ghixramel *device, uint32_t kind, uint64_t argument, uint8_t answer[2]);
@@ -141,12 +154,13 @@ uint32_t ghixramel_int(const struct ghixramel *device, uint8_t asserted[1]);
 uint32_t ghixramel_show(const struct ghixramel *device, uint32_t number, uint8_t shown[1]);
 
 /* The words of an image, and back, for a host that lays out its images itself; those on the structs come below.
- * rest is the pointer, the bus state, the address choice, the status, the line and the mode. Refusal 3. */
-uint32_t ghixramel_pack(uint64_t words[28], const uint64_t pins[4], const uint8_t registers[128], const uint64_t rest[6]);
-uint32_t ghixramel_unpack(const uint64_t words[28], uint64_t pins[4], uint8_t registers[128], uint64_t rest[6]);
+ * rest is the pointer, the bus state, the address choice, the status, the line, the mode, the number and the place.
+ * Refusal 3. */
+uint32_t ghixramel_pack(uint64_t words[28], const uint64_t pins[4], const uint8_t registers[128], const uint64_t rest[8]);
+uint32_t ghixramel_unpack(const uint64_t words[28], uint64_t pins[4], uint8_t registers[128], uint64_t rest[8]);
 
 /* The image's numbers out of rest, if the call that filled it was not refused. */
-static inline uint32_t ghixramel_image_rest(uint32_t refusal, const uint64_t rest[6], struct ghixramel_image *image)
+static inline uint32_t ghixramel_image_rest(uint32_t refusal, const uint64_t rest[8], struct ghixramel_image *image)
 {
     if (refusal == GHIXRAMEL_DONE) {
         image->pointer = rest[0];
@@ -155,6 +169,8 @@ static inline uint32_t ghixramel_image_rest(uint32_t refusal, const uint64_t res
         image->status = rest[3];
         image->line = rest[4];
         image->mode = rest[5];
+        image->number = rest[6];
+        image->place = rest[7];
     }
     return refusal;
 }
@@ -162,14 +178,15 @@ static inline uint32_t ghixramel_image_rest(uint32_t refusal, const uint64_t res
 /* The image of a state. Refusal 3. */
 static inline uint32_t ghixramel_to_image(const struct ghixramel *device, struct ghixramel_image *image)
 {
-    uint64_t rest[6] = {0};
+    uint64_t rest[8] = {0};
     return ghixramel_image_rest(ghixramel_unpack(device->words, image->pins, image->registers, rest), rest, image);
 }
 
 /* A device in the state that the image says; what its memory held does not matter. Refusal 3. */
 static inline uint32_t ghixramel_from_image(struct ghixramel *device, const struct ghixramel_image *image)
 {
-    const uint64_t rest[6] = {image->pointer, image->bus, image->choice, image->status, image->line, image->mode};
+    const uint64_t rest[8] = {image->pointer, image->bus,  image->choice, image->status,
+                              image->line,    image->mode, image->number, image->place};
     return ghixramel_pack(device->words, image->pins, image->registers, rest);
 }
 
@@ -188,28 +205,29 @@ uint32_t ghixramel_plan(const uint8_t *start, uint64_t start_bytes, const uint8_
  * - a setting is sixteen bytes, for the registers 05-09 0F-13 53 68-6C in this order; a plan has at most 26 writes. */
 enum { GHIXRAMEL34_SETTING_BYTES = 16, GHIXRAMEL34_MOST_WRITES = 26, GHIXRAMEL34_PLAN_BYTES = 52 };
 
-uint32_t ghixramel34_power_on(struct ghixramel *device, uint32_t choice, uint64_t levels);
+uint32_t ghixramel34_power_on(struct ghixramel *device, uint32_t choice, uint64_t levels, uint64_t number);
 uint32_t ghixramel34_step(struct ghixramel *device, uint32_t kind, uint64_t argument, uint8_t answer[2]);
 uint32_t ghixramel34_burst(struct ghixramel *device, const uint8_t *events, uint64_t event_bytes, uint64_t asked,
                            uint8_t *answers, uint64_t answer_bytes, uint64_t done[1]);
 uint32_t ghixramel34_drives(const struct ghixramel *device, uint64_t drives[2]);
 uint32_t ghixramel34_int(const struct ghixramel *device, uint8_t asserted[1]);
 uint32_t ghixramel34_show(const struct ghixramel *device, uint32_t number, uint8_t shown[1]);
-uint32_t ghixramel34_pack(uint64_t words[28], const uint64_t pins[4], const uint8_t registers[128], const uint64_t rest[6]);
-uint32_t ghixramel34_unpack(const uint64_t words[28], uint64_t pins[4], uint8_t registers[128], uint64_t rest[6]);
+uint32_t ghixramel34_pack(uint64_t words[28], const uint64_t pins[4], const uint8_t registers[128], const uint64_t rest[8]);
+uint32_t ghixramel34_unpack(const uint64_t words[28], uint64_t pins[4], uint8_t registers[128], uint64_t rest[8]);
 
 uint32_t ghixramel34_plan(const uint8_t *start, uint64_t start_bytes, const uint8_t *goal, uint64_t goal_bytes,
                           uint8_t *buffer, uint64_t buffer_bytes, uint64_t writes[1]);
 
 static inline uint32_t ghixramel34_to_image(const struct ghixramel *device, struct ghixramel_image *image)
 {
-    uint64_t rest[6] = {0};
+    uint64_t rest[8] = {0};
     return ghixramel_image_rest(ghixramel34_unpack(device->words, image->pins, image->registers, rest), rest, image);
 }
 
 static inline uint32_t ghixramel34_from_image(struct ghixramel *device, const struct ghixramel_image *image)
 {
-    const uint64_t rest[6] = {image->pointer, image->bus, image->choice, image->status, image->line, image->mode};
+    const uint64_t rest[8] = {image->pointer, image->bus,  image->choice, image->status,
+                              image->line,    image->mode, image->number, image->place};
     return ghixramel34_pack(device->words, image->pins, image->registers, rest);
 }
 

@@ -30,7 +30,8 @@ build_lines() { # PART PEER_OPTIONS..
 }
 
 build() {
-    local name host="host checks guarded stack parts images words master refused points refusals broken carried shows plans bursts"
+    local name host="host checks guarded stack parts images words master inventory refused"
+    host+=" points identity refusals broken carried shows plans bursts"
     mkdir -p "$out" || return 1
     for name in $host as_peer plan_lines view_lines burst_lines; do
         compile_c "$out/$name.o" "tests/c/$name.c" || return 1

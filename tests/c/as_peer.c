@@ -20,10 +20,10 @@ static uint32_t keep(struct peer *peer, const struct ghixramel *device, uint32_t
     return refusal;
 }
 
-uint32_t peer_power_on(struct peer *peer, uint32_t choice, uint64_t levels)
+uint32_t peer_power_on(struct peer *peer, uint32_t choice, uint64_t levels, uint64_t number)
 {
     struct ghixramel device = device_of(peer);
-    uint32_t refusal = guarded_power_on(&device, choice, levels);
+    uint32_t refusal = guarded_power_on(&device, choice, levels, number);
     return keep(peer, &device, refusal);
 }
 

@@ -69,13 +69,16 @@ static void try_bus_numbers(const struct ghixramel_image *whole)
         (group_of(value) ? want_image_whole : want_image_broken)("pointer", value, &image);
         image = *whole;
         image.bus = value;
-        (value < 8 ? want_image_whole : want_image_broken)("bus state", value, &image);
+        (value <= GHIXRAMEL_TELLING ? want_image_whole : want_image_broken)("bus state", value, &image);
         image = *whole;
         image.choice = value;
         (value < 4 ? want_image_whole : want_image_broken)("address choice", value, &image);
         image = *whole;
         image.mode = value;
         (value < 2 ? want_image_whole : want_image_broken)("mode", value, &image);
+        image = *whole;
+        image.place = value;
+        (value < GHIXRAMEL_NUMBER_BYTES ? want_image_whole : want_image_broken)("place", value, &image);
     }
 }
 
@@ -95,7 +98,28 @@ static void try_large_bus_numbers(const struct ghixramel_image *whole)
         image = *whole;
         image.mode |= (uint64_t)1 << bit;
         want_image_broken("mode", image.mode, &image);
+        image = *whole;
+        image.place |= (uint64_t)1 << bit;
+        want_image_broken("place", image.place, &image);
     }
+}
+
+/* Each bit that a number has none of, added to one that may stand and alone. */
+static void try_device_numbers(const struct ghixramel_image *whole)
+{
+    struct ghixramel_image image = *whole;
+    image.number = 0;
+    want_image_whole("device's number", image.number, &image);
+    image.number = GHIXRAMEL_LARGEST_NUMBER;
+    want_image_whole("device's number", image.number, &image);
+    for (int bit = 8 * GHIXRAMEL_NUMBER_BYTES; bit < 64; bit++) {
+        image.number = whole->number | (uint64_t)1 << bit;
+        want_image_broken("device's number", image.number, &image);
+        image.number = (uint64_t)1 << bit;
+        want_image_broken("device's number", image.number, &image);
+    }
+    image.number = UINT64_MAX;
+    want_image_broken("device's number", image.number, &image);
 }
 
 static struct ghixramel_image with_pins(const struct ghixramel_image *whole, int set, uint64_t pins)
@@ -176,6 +200,7 @@ static void try_image(const struct ghixramel_image *whole)
 {
     try_bus_numbers(whole);
     try_large_bus_numbers(whole);
+    try_device_numbers(whole);
     try_pin_sets(whole);
     try_entries(whole);
     try_status(whole);
@@ -185,6 +210,12 @@ static void try_image(const struct ghixramel_image *whole)
 static int is_kept(uint32_t word)
 {
     return word == STATUS_WORD || word == LINE_WORD;
+}
+
+/* Some numbers have no bit too many and cannot stand. */
+static int has_gaps(uint32_t word)
+{
+    return word == POINTER_WORD || word == BUS_WORD || word == PLACE_WORD;
 }
 
 static struct ghixramel with_word(const struct ghixramel *whole, uint32_t word, uint64_t value)
@@ -221,7 +252,7 @@ static void try_bits(const struct ghixramel *whole)
         if (is_kept(word) || word == PART_WORD)
             continue;
         want_word_whole(whole, word, 0);
-        if (word != POINTER_WORD)
+        if (!has_gaps(word))
             want_word_whole(whole, word, bits_of_word(word));
     }
 }
@@ -263,10 +294,13 @@ static void try_pairs(const struct ghixramel *whole)
         }
 }
 
-static void try_pointers(const struct ghixramel *whole)
+static void try_gaps(const struct ghixramel *whole)
 {
-    for (uint32_t value = 0; value <= UINT8_MAX; value++)
+    for (uint32_t value = 0; value <= UINT8_MAX; value++) {
         (group_of(value) ? want_word_whole : want_word_broken)(whole, POINTER_WORD, value);
+        (value <= GHIXRAMEL_TELLING ? want_word_whole : want_word_broken)(whole, BUS_WORD, value);
+        (value < GHIXRAMEL_NUMBER_BYTES ? want_word_whole : want_word_broken)(whole, PLACE_WORD, value);
+    }
 }
 
 /* A state says its part: any other number there, and whatever is well formed for another part, is no state of this one. */
@@ -329,7 +363,7 @@ static void try_words(const struct ghixramel_image *image)
     try_kept_words(&whole);
     try_words_they_come_of(&whole);
     try_pairs(&whole);
-    try_pointers(&whole);
+    try_gaps(&whole);
     try_part_numbers(&whole);
 }
 

@@ -1,4 +1,4 @@
-/* Bursts of the library for lines of an image's eleven fields, the number of events asked, the bytes of room for answers and the
+/* Bursts of the library for lines of an image's thirteen fields, the number of events asked, the bytes of room for answers and the
  * events' bytes: the refusal, the events done, all of the room and the image after. So the model judges them. */
 #include "guarded.h"
 #include "image_lines.h"

@@ -4,6 +4,7 @@
 #include "guarded.h"
 #include "host_checks.h"
 #include "images.h"
+#include "inventory.h"
 #include "master.h"
 #include "mix.h"
 #include "refused.h"
@@ -47,20 +48,32 @@ static int is_ignored(uint32_t kind)
 }
 
 /* Arguments that are not looked at are anything; of the 24-pin part their third word is 0. */
+static struct whole_event whole_of(struct event event, uint64_t *random)
+{
+    struct whole_event whole = {event.kind, (uint32_t)event.argument, (uint32_t)(event.argument >> 32)};
+    if (is_ignored(event.kind)) {
+        whole.argument = random_below(random, UINT32_MAX);
+        whole.rest = part->largest_rest ? random_below(random, UINT32_MAX) : 0;
+    }
+    return whole;
+}
+
 static void make_list(uint32_t count, uint64_t seed, const struct ghixramel_image *image)
 {
     struct mix mix;
     uint64_t random = seed;
     mix_begin(&mix, mix_of_part(), seed, (uint32_t)image->choice, image->pins[0]);
-    for (uint32_t i = 0; i < count; i++) {
-        struct event event = mix_next(&mix);
-        struct whole_event whole = {event.kind, (uint32_t)event.argument, (uint32_t)(event.argument >> 32)};
-        if (is_ignored(event.kind)) {
-            whole.argument = random_below(&random, UINT32_MAX);
-            whole.rest = part->largest_rest ? random_below(&random, UINT32_MAX) : 0;
-        }
-        put_in_list(i, whole);
-    }
+    for (uint32_t i = 0; i < count; i++)
+        put_in_list(i, whole_of(mix_next(&mix), &random));
+}
+
+static void make_inventory_list(uint32_t count, uint64_t seed, const struct ghixramel_image *image)
+{
+    struct inventory inventory;
+    uint64_t random = seed;
+    inventory_begin(&inventory, seed, (uint32_t)image->choice);
+    for (uint32_t i = 0; i < count; i++)
+        put_in_list(i, whole_of(inventory_next(&inventory), &random));
 }
 
 static struct burst burst_on(const struct ghixramel *device)
@@ -184,7 +197,7 @@ static void refused_in_the_middle(void)
 {
     uint64_t random = SEED;
     struct ghixramel_image image = random_image(&random);
-    for (image.bus = GHIXRAMEL_IDLE; image.bus <= GHIXRAMEL_DEAF; image.bus++) {
+    for (image.bus = GHIXRAMEL_IDLE; image.bus <= GHIXRAMEL_TELLING; image.bus++) {
         struct ghixramel device = device_from(&image);
         make_list(SMALL, SEED + image.bus, &image);
         for (uint32_t place = 0; place < SMALL; place++)
@@ -319,12 +332,12 @@ static void want_outcome(const struct outcome *wanted, struct outcome got)
     want("answers differ", 0, memcmp(wanted->answers, got.answers, sizeof got.answers) != 0);
 }
 
-static void cuts(void)
+static void cuts(void (*make)(uint32_t, uint64_t, const struct ghixramel_image *))
 {
     uint64_t random = SEED;
     struct ghixramel_image image = random_image(&random);
     struct ghixramel device = device_from(&image);
-    make_list(CUT_EVENTS, SEED, &image);
+    make(CUT_EVENTS, SEED, &image);
     struct outcome wanted = one_by_one(&device);
     for (uint32_t size = 1; size <= MOST; size++) {
         about("list cut into bursts of", size);
@@ -342,5 +355,6 @@ void check_bursts(void)
     refused_in_the_middle();
     eights();
     broken_states();
-    cuts();
+    cuts(make_list);
+    cuts(make_inventory_list);
 }

@@ -3,6 +3,7 @@
 #include "guarded.h"
 #include "host_checks.h"
 #include "images.h"
+#include "inventory.h"
 #include "master.h"
 #include "mix.h"
 #include "peer_image.h"
@@ -78,6 +79,27 @@ static void one_status_bit(uint32_t pin)
     carry_kept(image);
 }
 
+static void one_bit_of_number(uint32_t bit)
+{
+    struct ghixramel_image image = power_on_image(0, 0);
+    about("one bit of the device's number", bit);
+    image.number = (uint64_t)1 << bit;
+    carry(&image);
+    image.number ^= GHIXRAMEL_LARGEST_NUMBER;
+    carry(&image);
+}
+
+/* Each bus state with each place. */
+static void one_bus_state(uint64_t bus)
+{
+    struct ghixramel_image image = power_on_image(0, 0);
+    image.bus = bus;
+    for (image.place = 0; image.place < GHIXRAMEL_NUMBER_BYTES; image.place++) {
+        about("bus state and place", bus << 8 | image.place);
+        carry(&image);
+    }
+}
+
 static void single_bits(void)
 {
     for (uint32_t number = 0; number < REGISTERS; number++)
@@ -89,6 +111,10 @@ static void single_bits(void)
             one_pin(set, pin);
     for (uint32_t pin = 0; pin < part->pins; pin++)
         one_status_bit(pin);
+    for (uint32_t bit = 0; bit < 8 * GHIXRAMEL_NUMBER_BYTES; bit++)
+        one_bit_of_number(bit);
+    for (uint64_t bus = GHIXRAMEL_IDLE; bus <= GHIXRAMEL_TELLING; bus++)
+        one_bus_state(bus);
 }
 
 /* The peer knows the 24-pin part alone. */
@@ -110,12 +136,12 @@ static void step_peer(struct peer *peer, struct event event, uint32_t answered, 
 }
 
 /* After every event status and line are what the rest gives, no pin past the last is in a set or driven, and the image makes the state. */
-static void run(struct ghixramel *device, struct mix *mix)
+static void run(struct ghixramel *device, const struct event events[EVENTS])
 {
     struct ghixramel_image image = image_of(device);
     struct peer peer = peer_of_image(&image);
     for (int i = 0; i < EVENTS; i++) {
-        struct event event = mix_next(mix);
+        struct event event = events[i];
         uint64_t drives[2] = {0};
         uint32_t answer = answer_to(device, event.kind, event.argument);
         image = image_of(device);
@@ -131,12 +157,13 @@ static void run(struct ghixramel *device, struct mix *mix)
     }
 }
 
-/* A reset gives the state of power-on, from wherever. */
+/* A reset gives the state of power-on with the same number, from wherever. */
 static void want_reset(const struct ghixramel *device)
 {
     struct ghixramel_image image = image_of(device);
-    struct ghixramel made = device_with((uint32_t)image.choice, image.pins[0]), reset = *device, called = *device;
+    struct ghixramel made = numbered_device((uint32_t)image.choice, image.pins[0], image.number), reset = *device, called = *device;
     struct ghixramel_image made_image = power_on_image((uint32_t)image.choice, image.pins[0]);
+    made_image.number = image.number;
     struct ghixramel carried = device_from(&made_image);
     want("answer to a reset", NOTHING, answer_to(&reset, GHIXRAMEL_RESET, 0));
     start(&called);
@@ -148,16 +175,32 @@ static void want_reset(const struct ghixramel *device)
     SAME("state after a general call", &made, &called);
 }
 
-static void runs(void)
+static void mixed_events(struct event events[EVENTS], uint64_t seed, const struct ghixramel_image *image)
+{
+    struct mix mix;
+    mix_begin(&mix, mix_of_part(), seed, (uint32_t)image->choice, image->pins[0]);
+    for (int i = 0; i < EVENTS; i++)
+        events[i] = mix_next(&mix);
+}
+
+static void inventory_events(struct event events[EVENTS], uint64_t seed, const struct ghixramel_image *image)
+{
+    struct inventory inventory;
+    inventory_begin(&inventory, seed, (uint32_t)image->choice);
+    for (int i = 0; i < EVENTS; i++)
+        events[i] = inventory_next(&inventory);
+}
+
+static void runs(const char *topic, void (*make)(struct event events[EVENTS], uint64_t, const struct ghixramel_image *))
 {
     uint64_t random = SEED;
     for (uint32_t i = 0; i < RUNS; i++) {
-        struct mix mix;
+        struct event events[EVENTS];
         struct ghixramel_image image = i % 2 ? random_image(&random) : power_on_image(i / 2 % 4, random_pins(&random));
         struct ghixramel device = device_from(&image);
-        about("run", i);
-        mix_begin(&mix, mix_of_part(), SEED + i, (uint32_t)image.choice, image.pins[0]);
-        run(&device, &mix);
+        about(topic, i);
+        make(events, SEED + i, &image);
+        run(&device, events);
         want_reset(&device);
     }
 }
@@ -210,6 +253,7 @@ void check_carried(void)
 {
     random_images();
     single_bits();
-    runs();
+    runs("run", mixed_events);
+    runs("run of an inventory", inventory_events);
     orders();
 }

@@ -47,7 +47,7 @@ struct lent {
     uint8_t guard_3[GUARD];
     uint8_t registers[128];
     uint8_t guard_4[GUARD];
-    uint64_t rest[6]; /* pointer, bus state, address choice, status, line, mode */
+    uint64_t rest[8]; /* pointer, bus state, address choice, status, line, mode, number, place */
     uint8_t guard_5[GUARD];
     struct ghixramel_image image;
     uint8_t guard_6[GUARD];
@@ -65,7 +65,7 @@ _Static_assert(offsetof(struct lent, device) % 16 == 8 && offsetof(struct lent, 
 /* A call on the other stack takes its numbers from here, and leaves its refusal. */
 struct numbers {
     uint32_t small;
-    uint64_t large;
+    uint64_t large, device_number;
     uint64_t start_bytes, goal_bytes, buffer_bytes;
     uint64_t event_bytes, asked, answer_bytes;
 };
@@ -80,7 +80,7 @@ static size_t most_used[FUNCTIONS];
 
 static void power_on(void)
 {
-    refusal = part->calls.power_on(at, numbers.small, numbers.large);
+    refusal = part->calls.power_on(at, numbers.small, numbers.large, numbers.device_number);
 }
 
 static void step(void)
@@ -264,16 +264,17 @@ static void lend(const struct ghixramel *device, struct numbers with)
 
 static void lend_image(const struct ghixramel_image *image)
 {
-    const uint64_t rest[6] = {image->pointer, image->bus, image->choice, image->status, image->line, image->mode};
+    const uint64_t rest[8] = {image->pointer, image->bus,  image->choice, image->status,
+                              image->line,    image->mode, image->number, image->place};
     memcpy(lent.pins, image->pins, sizeof lent.pins);
     memcpy(lent.registers, image->registers, sizeof lent.registers);
     memcpy(lent.rest, rest, sizeof lent.rest);
     memcpy(&lent.image, image, sizeof lent.image);
 }
 
-uint32_t guarded_power_on(struct ghixramel *device, uint32_t choice, uint64_t levels)
+uint32_t guarded_power_on(struct ghixramel *device, uint32_t choice, uint64_t levels, uint64_t number)
 {
-    lend(device, (struct numbers){.small = choice, .large = levels});
+    lend(device, (struct numbers){.small = choice, .large = levels, .device_number = number});
     watch(POWER_ON, power_on, power_on);
     memcpy(device, &lent.elsewhere, sizeof lent.elsewhere);
     return refusal;

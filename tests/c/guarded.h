@@ -12,7 +12,7 @@
 /* What is lent to the planner may be this long, and to a burst so many events and so much room for answers. */
 enum { MOST_LENT_BYTES = 64, MOST_EVENT_BYTES = 515 * GHIXRAMEL_EVENT_BYTES, MOST_ROOM_BYTES = 515 * 2 + 1 };
 
-uint32_t guarded_power_on(struct ghixramel *device, uint32_t choice, uint64_t levels);
+uint32_t guarded_power_on(struct ghixramel *device, uint32_t choice, uint64_t levels, uint64_t number);
 uint32_t guarded_step(struct ghixramel *device, uint32_t kind, uint64_t argument, uint8_t answer[2]);
 uint32_t guarded_drives(const struct ghixramel *device, uint64_t drives[2]);
 uint32_t guarded_int(const struct ghixramel *device, uint8_t asserted[1]);

@@ -1,10 +1,12 @@
 /* The header as C99, C11 and C++ take it; linked, so that its names are the library's in each of them. */
 #include <ghixramel.h>
 
-/* By their types, so that a length of 32 bits on a processor of 32 bits stops the compiler. */
+/* By their types, so that a length, levels or a number of 32 bits on a processor of 32 bits stops the compiler. */
+static uint32_t (*const power_on)(struct ghixramel *, uint32_t, uint64_t, uint64_t) = ghixramel_power_on;
 static uint32_t (*const plan)(const uint8_t *, uint64_t, const uint8_t *, uint64_t, uint8_t *, uint64_t, uint64_t *) = ghixramel_plan;
 static uint32_t (*const burst)(struct ghixramel *, const uint8_t *, uint64_t, uint64_t, uint8_t *, uint64_t, uint64_t *) = ghixramel_burst;
 
+static uint32_t (*const power_on34)(struct ghixramel *, uint32_t, uint64_t, uint64_t) = ghixramel34_power_on;
 static uint32_t (*const plan34)(const uint8_t *, uint64_t, const uint8_t *, uint64_t, uint8_t *, uint64_t, uint64_t *) = ghixramel34_plan;
 static uint32_t (*const burst34)(struct ghixramel *, const uint8_t *, uint64_t, uint64_t, uint8_t *, uint64_t, uint64_t *) =
     ghixramel34_burst;
@@ -31,10 +33,12 @@ static int done_in_a_burst(struct ghixramel *device)
 
 static int carried(struct ghixramel *device)
 {
-    struct ghixramel_image image = {{0}, {0}, 0, 0, 0, 0, 0, 0};
+    struct ghixramel_image image = {{0}, {0}, 0, 0, 0, 0, 0, 0, 0, 0};
     if (ghixramel_to_image(device, &image) != GHIXRAMEL_DONE || image.choice != 3 || image.registers[0x54] != 0xFF)
         return 0;
     if (image.status != 0 || image.line != 1 || image.mode != 0 || ghixramel_from_image(device, &image) != GHIXRAMEL_DONE)
+        return 0;
+    if (image.number != GHIXRAMEL_LARGEST_NUMBER || image.place != 0)
         return 0;
     image.line = 0;
     if (ghixramel_from_image(device, &image) != GHIXRAMEL_BAD_IMAGE)
@@ -44,6 +48,17 @@ static int carried(struct ghixramel *device)
     if (ghixramel_from_image(device, &image) != GHIXRAMEL_BAD_IMAGE)
         return 0;
     image.mode = 1;
+    if (ghixramel_from_image(device, &image) != GHIXRAMEL_DONE)
+        return 0;
+    image.number = GHIXRAMEL_LARGEST_NUMBER + 1;
+    if (ghixramel_from_image(device, &image) != GHIXRAMEL_BAD_IMAGE)
+        return 0;
+    image.number = 0;
+    image.place = GHIXRAMEL_NUMBER_BYTES;
+    if (ghixramel_from_image(device, &image) != GHIXRAMEL_BAD_IMAGE)
+        return 0;
+    image.place = GHIXRAMEL_NUMBER_BYTES - 1;
+    image.bus = GHIXRAMEL_TELLING;
     if (ghixramel_from_image(device, &image) != GHIXRAMEL_DONE)
         return 0;
     image.choice = 4;
@@ -61,20 +76,24 @@ static int planned(void)
 static int sister(void)
 {
     struct ghixramel device = {{0}};
-    struct ghixramel_image image = {{0}, {0}, 0, 0, 0, 0, 0, 0};
+    struct ghixramel_image image = {{0}, {0}, 0, 0, 0, 0, 0, 0, 0, 0};
     uint8_t answer[2] = {0}, asserted[1] = {0}, shown[1] = {0}, answers[2] = {0};
     uint8_t levels[GHIXRAMEL_EVENT_BYTES] = {GHIXRAMEL_LEVELS, 0, 0, 0, 0, 0, 0, 0, 2, 0, 0, 0};
     uint8_t ends[GHIXRAMEL34_SETTING_BYTES] = {0}, buffer[GHIXRAMEL34_PLAN_BYTES] = {0};
     uint64_t done[1] = {0}, drives[2] = {0}, writes[1] = {1};
     if (sizeof ends != 16 || GHIXRAMEL34_MOST_WRITES != 26 || sizeof buffer != 52)
         return 0;
-    if (ghixramel34_power_on(&device, 3, (uint64_t)1 << 34) != GHIXRAMEL_BAD_ARGUMENT)
+    if (power_on34(&device, 3, (uint64_t)1 << 34, 0) != GHIXRAMEL_BAD_ARGUMENT)
         return 0;
-    if (ghixramel34_power_on(&device, 3, 0) != GHIXRAMEL_DONE)
+    if (power_on34(&device, 3, 0, GHIXRAMEL_LARGEST_NUMBER + 1) != GHIXRAMEL_BAD_ARGUMENT)
+        return 0;
+    if (power_on34(&device, 3, 0, GHIXRAMEL_LARGEST_NUMBER) != GHIXRAMEL_DONE)
         return 0;
     if (burst34(&device, levels, sizeof levels, 1, answers, sizeof answers, done) != GHIXRAMEL_DONE || done[0] != 1)
         return 0;
     if (ghixramel34_to_image(&device, &image) != GHIXRAMEL_DONE || image.pins[0] != (uint64_t)2 << 32 || image.registers[0x4D] != 0x03)
+        return 0;
+    if (image.number != GHIXRAMEL_LARGEST_NUMBER || image.place != 0)
         return 0;
     if (ghixramel34_drives(&device, drives) != GHIXRAMEL_DONE || ghixramel34_int(&device, asserted) != GHIXRAMEL_DONE || asserted[0] != 0)
         return 0;
@@ -95,7 +114,11 @@ int main(void)
 {
     struct ghixramel device = {{0}};
     uint8_t answer[2] = {0};
-    if (ghixramel_power_on(&device, 4, 0) != GHIXRAMEL_BAD_ARGUMENT || ghixramel_power_on(&device, 3, 0) != GHIXRAMEL_DONE)
+    if (power_on(&device, 4, 0, 0) != GHIXRAMEL_BAD_ARGUMENT)
+        return 1;
+    if (power_on(&device, 3, 0, GHIXRAMEL_LARGEST_NUMBER + 1) != GHIXRAMEL_BAD_ARGUMENT)
+        return 1;
+    if (power_on(&device, 3, 0, GHIXRAMEL_LARGEST_NUMBER) != GHIXRAMEL_DONE)
         return 1;
     if (ghixramel_step(&device, GHIXRAMEL_START, 0, answer) != GHIXRAMEL_DONE || answer[0] != GHIXRAMEL_NOTHING)
         return 1;

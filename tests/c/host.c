@@ -1,5 +1,5 @@
-/* The library as a host calls it: the rules' worked example and bench points, every refusal, images in and out, the planner over the
- * bus, bursts; the same for each part. A line for each check that failed; the last line is `host: N checks, M failed`. */
+/* The library as a host calls it: the rules' worked example and bench points, the Device ID, every refusal, images in and out, the planner
+ * over the bus, bursts; the same for each part. A line for each check that failed; the last line is `host: N checks, M failed`. */
 #include "checks.h"
 #include "guarded.h"
 #include "host_checks.h"
@@ -8,6 +8,7 @@
 static void check_part(void)
 {
     check_points();
+    check_identity();
     check_device_refusals();
     check_bounds();
     check_broken();

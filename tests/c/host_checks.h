@@ -3,6 +3,7 @@
 #define HOST_CHECKS_H
 
 void check_points(void);
+void check_identity(void);
 void check_device_refusals(void);
 void check_bounds(void);
 void check_broken(void);

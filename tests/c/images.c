@@ -80,15 +80,17 @@ struct ghixramel_image random_image(uint64_t *random)
     for (uint32_t number = 0; number < REGISTERS; number++)
         image.registers[number] = (uint8_t)random_below(random, 256) & stored_bits(number);
     image.pointer = random_pointer(random);
-    image.bus = random_below(random, 8);
+    image.bus = random_below(random, GHIXRAMEL_TELLING + 1);
     image.choice = random_below(random, 4);
     image.mode = random_below(random, 2);
+    image.number = random_below(random, GHIXRAMEL_LARGEST_NUMBER + 1);
+    image.place = random_below(random, GHIXRAMEL_NUMBER_BYTES);
     return kept(image);
 }
 
 struct ghixramel_image power_on_image(uint32_t choice, uint64_t levels)
 {
-    struct ghixramel_image image = {.pins = {levels, levels}, .bus = GHIXRAMEL_IDLE, .choice = choice, .status = 0, .line = 1};
+    struct ghixramel_image image = {.pins = {levels, levels}, .bus = GHIXRAMEL_IDLE, .choice = choice, .line = 1, .number = USUAL_NUMBER};
     for (uint32_t number = 0; number < REGISTERS; number++)
         image.registers[number] = power_on_entry(number);
     return image;

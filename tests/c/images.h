@@ -7,6 +7,9 @@
 
 enum { REGISTERS = 128 };
 
+/* The number of every device that is given no other. */
+enum { USUAL_NUMBER = 0x123456 };
+
 /* NULL for a reserved number. */
 const struct group *group_of(uint32_t number);
 
@@ -31,7 +34,7 @@ struct ghixramel_image kept(struct ghixramel_image image);
 /* Any state that a device can be in. */
 struct ghixramel_image random_image(uint64_t *random);
 
-/* The image at power-on, as the rules have it. */
+/* The image at power-on with the usual number, as the rules have it. */
 struct ghixramel_image power_on_image(uint32_t choice, uint64_t levels);
 
 #endif

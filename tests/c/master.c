@@ -2,14 +2,25 @@
 
 #include "checks.h"
 #include "guarded.h"
+#include "images.h"
 
 #include <libc.h>
 
+uint32_t address_byte(uint32_t choice)
+{
+    return 2 * (0x20 + choice);
+}
+
 struct ghixramel device_with(uint32_t choice, uint64_t levels)
+{
+    return numbered_device(choice, levels, USUAL_NUMBER);
+}
+
+struct ghixramel numbered_device(uint32_t choice, uint64_t levels, uint64_t number)
 {
     struct ghixramel device;
     memset(&device, 0xFF, sizeof device);
-    want("refusal of power-on", GHIXRAMEL_DONE, guarded_power_on(&device, choice, levels));
+    want("refusal of power-on", GHIXRAMEL_DONE, guarded_power_on(&device, choice, levels, number));
     return device;
 }
 
@@ -58,7 +69,7 @@ void set_levels(struct ghixramel *device, uint64_t levels)
 
 static uint32_t address(const struct ghixramel *device)
 {
-    return 2 * (0x20 + (uint32_t)image_of(device).choice);
+    return address_byte((uint32_t)image_of(device).choice);
 }
 
 void begin_write(struct ghixramel *device, uint32_t number)

@@ -7,7 +7,15 @@
 /* An answer in one number: its kind above the byte read. */
 enum { NOTHING = GHIXRAMEL_NOTHING << 8, ACK = GHIXRAMEL_ACK << 8, NAK = GHIXRAMEL_NAK << 8, READ = GHIXRAMEL_READ << 8 };
 
+/* Bytes that every device hears. */
+enum { GENERAL_CALL = 0x00, SOFTWARE_RESET = 0x06, ASK_FOR_ID = 0xF8, TELL_ID = 0xF9 };
+
+/* The address byte of a device to write; to read it is one more. */
+uint32_t address_byte(uint32_t choice);
+
+/* The number is the usual one, or given. */
 struct ghixramel device_with(uint32_t choice, uint64_t levels);
+struct ghixramel numbered_device(uint32_t choice, uint64_t levels, uint64_t number);
 struct ghixramel device_from(const struct ghixramel_image *image);
 struct ghixramel_image image_of(const struct ghixramel *device);
 

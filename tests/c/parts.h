@@ -12,7 +12,7 @@ struct group {
 };
 
 struct calls {
-    uint32_t (*power_on)(struct ghixramel *, uint32_t, uint64_t);
+    uint32_t (*power_on)(struct ghixramel *, uint32_t, uint64_t, uint64_t);
     uint32_t (*step)(struct ghixramel *, uint32_t, uint64_t, uint8_t *);
     uint32_t (*burst)(struct ghixramel *, const uint8_t *, uint64_t, uint64_t, uint8_t *, uint64_t, uint64_t *);
     uint32_t (*drives)(const struct ghixramel *, uint64_t *);

@@ -17,6 +17,8 @@ static inline struct ghixramel_image image_of_peer(const struct peer *peer)
         .status = peer->status,
         .line = peer->line,
         .mode = peer->mode,
+        .number = peer->number,
+        .place = peer->place,
     };
     memcpy(image.registers, peer->registers, sizeof image.registers);
     return image;
@@ -30,11 +32,13 @@ static inline struct peer peer_of_image(const struct ghixramel_image *image)
         .held = image->pins[2],
         .edge = image->pins[3],
         .status = image->status,
+        .number = image->number,
         .pointer = (uint8_t)image->pointer,
         .bus = (uint8_t)image->bus,
         .choice = (uint8_t)image->choice,
         .line = (uint8_t)image->line,
         .mode = (uint8_t)image->mode,
+        .place = (uint8_t)image->place,
     };
     memcpy(peer.registers, image->registers, sizeof peer.registers);
     return peer;

@@ -86,7 +86,7 @@ void check_device_refusals(void)
     try_device(&device);
     for (int i = 0; i < RANDOM_IMAGES; i++) {
         struct ghixramel_image image = random_image(&random);
-        for (image.bus = GHIXRAMEL_IDLE; image.bus <= GHIXRAMEL_DEAF; image.bus++) {
+        for (image.bus = GHIXRAMEL_IDLE; image.bus <= GHIXRAMEL_TELLING; image.bus++) {
             device = device_from(&image);
             try_device(&device);
         }
@@ -94,22 +94,22 @@ void check_device_refusals(void)
 }
 
 /* What memory held before power-on does not matter, and stays if power-on is refused. */
-static uint32_t power_on_refusal(uint32_t choice, uint64_t levels, struct ghixramel *device)
+static uint32_t power_on_refusal(uint32_t choice, uint64_t levels, uint64_t number, struct ghixramel *device)
 {
-    struct ghixramel over_another = device_with(3, 0x123456);
+    struct ghixramel over_another = device_with(3, 0xABCDEF);
     memset(device, 0xEE, sizeof *device);
-    uint32_t refusal = guarded_power_on(device, choice, levels);
-    want("refusal over another device", refusal, guarded_power_on(&over_another, choice, levels));
+    uint32_t refusal = guarded_power_on(device, choice, levels, number);
+    want("refusal over another device", refusal, guarded_power_on(&over_another, choice, levels, number));
     if (refusal == GHIXRAMEL_DONE)
         want("states differ", 0, memcmp(device, &over_another, sizeof over_another) != 0);
     return refusal;
 }
 
-static void want_power_on(uint32_t choice, uint64_t levels)
+static void want_power_on(uint32_t choice, uint64_t levels, uint64_t number)
 {
     struct ghixramel device = {0};
     about("power-on with levels", levels);
-    want("refusal", GHIXRAMEL_DONE, power_on_refusal(choice, levels, &device));
+    want("refusal", GHIXRAMEL_DONE, power_on_refusal(choice, levels, number, &device));
     struct ghixramel_image image = image_of(&device);
     want("level", levels, image.pins[0]);
     want("reference", levels, image.pins[1]);
@@ -121,9 +121,41 @@ static void want_power_on(uint32_t choice, uint64_t levels)
     want("status", 0, image.status);
     want("line", 1, image.line);
     want("mode", 0, image.mode);
+    want("device's number", number, image.number);
+    want("place", 0, image.place);
     for (uint32_t number = 0; number < REGISTERS; number++) {
         about("register after power-on", number);
         want("value", power_on_entry(number), image.registers[number]);
+    }
+}
+
+/* One number too large, with all else in range and with nothing in range. */
+static void want_bad_number(uint32_t choice, uint64_t number)
+{
+    struct ghixramel device = {0};
+    about("power-on with a device's number", number);
+    want("refusal", GHIXRAMEL_BAD_ARGUMENT, power_on_refusal(choice, 0, number, &device));
+    want("refusal with all pins at 1", GHIXRAMEL_BAD_ARGUMENT, power_on_refusal(choice, all_pins(), number, &device));
+    want("refusal with levels too large", GHIXRAMEL_BAD_ARGUMENT, power_on_refusal(choice, UINT64_MAX, number, &device));
+    want("refusal with an address choice too large", GHIXRAMEL_BAD_ARGUMENT, power_on_refusal(UINT32_MAX, 0, number, &device));
+    want("refusal with both", GHIXRAMEL_BAD_ARGUMENT, power_on_refusal(UINT32_MAX, UINT64_MAX, number, &device));
+}
+
+/* Each bit that a number has, and each that it has not, which a cut-off number would lose. */
+static void try_device_numbers(uint32_t choice)
+{
+    want_power_on(choice, 0, GHIXRAMEL_LARGEST_NUMBER);
+    want_power_on(choice, all_pins(), GHIXRAMEL_LARGEST_NUMBER);
+    want_bad_number(choice, GHIXRAMEL_LARGEST_NUMBER + 1);
+    want_bad_number(choice, UINT64_MAX);
+    for (int bit = 0; bit < 64; bit++) {
+        uint64_t number = (uint64_t)1 << bit;
+        if (number <= GHIXRAMEL_LARGEST_NUMBER) {
+            want_power_on(choice, 0, number);
+        } else {
+            want_bad_number(choice, number);
+            want_bad_number(choice, USUAL_NUMBER | number);
+        }
     }
 }
 
@@ -132,17 +164,18 @@ void check_bounds(void)
     static const uint32_t wrong_choices[] = {4, 0x100, 0x80000000, UINT32_MAX};
     struct ghixramel device = {0};
     for (uint32_t choice = 0; choice < 4; choice++) {
-        want_power_on(choice, 0);
-        want_power_on(choice, all_pins());
+        want_power_on(choice, 0, 0);
+        want_power_on(choice, all_pins(), 0);
         for EACH (i, far_too_large) {
             about("power-on with levels", far_too_large[i]);
             want("refusal", far_too_large[i] <= all_pins() ? GHIXRAMEL_DONE : GHIXRAMEL_BAD_ARGUMENT,
-                 power_on_refusal(choice, far_too_large[i], &device));
+                 power_on_refusal(choice, far_too_large[i], USUAL_NUMBER, &device));
         }
+        try_device_numbers(choice);
     }
     for EACH (i, wrong_choices) {
         about("power-on with address choice", wrong_choices[i]);
-        want("refusal", GHIXRAMEL_BAD_ARGUMENT, power_on_refusal(wrong_choices[i], 0, &device));
-        want("refusal with levels too large", GHIXRAMEL_BAD_ARGUMENT, power_on_refusal(wrong_choices[i], UINT64_MAX, &device));
+        want("refusal", GHIXRAMEL_BAD_ARGUMENT, power_on_refusal(wrong_choices[i], 0, USUAL_NUMBER, &device));
+        want("refusal with levels too large", GHIXRAMEL_BAD_ARGUMENT, power_on_refusal(wrong_choices[i], UINT64_MAX, USUAL_NUMBER, &device));
     }
 }

@@ -1,4 +1,4 @@
-/* Views of the library for lines of an image's eleven fields and a register number: the byte that a fetch would show, INT, the pins
+/* Views of the library for lines of an image's thirteen fields and a register number: the byte that a fetch would show, INT, the pins
  * driven low and high, as the program trace answers; in the place of what was refused its refusal. So the model judges them. */
 #include "guarded.h"
 #include "parts.h"
@@ -12,7 +12,7 @@ struct asked {
     uint32_t number;
 };
 
-/* The fields have fixed widths, so a line of the right length with a tab after each of eleven fields has no room for more. */
+/* The fields have fixed widths, so a line of the right length with a tab after each of thirteen fields has no room for more. */
 static int read_asked(const uint8_t *line, size_t length, struct asked *asked)
 {
     uint8_t text[LINE_BYTES + 1];

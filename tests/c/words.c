@@ -16,15 +16,19 @@ uint64_t bits_of_word(uint32_t word)
     case POINTER_WORD:
         return 0x7F;
     case BUS_WORD:
-        return 0x07;
+        return 0x0F;
     case CHOICE_WORD:
         return 0x03;
     case MODE_WORD:
         return 0x01;
+    case NUMBER_WORD:
+        return GHIXRAMEL_LARGEST_NUMBER;
+    case PLACE_WORD:
+        return 0x03;
     case PART_WORD:
         return part->number;
-    default: /* a pin set, or unused */
-        return word < CHOICE_WORD ? all_pins() : 0;
+    default: /* a pin set */
+        return all_pins();
     }
 }
 
@@ -63,7 +67,8 @@ struct ghixramel words_of(const struct ghixramel_image *image)
         bytes_at(image, part->debounce, part->debounce_bytes), part->debounce_count ? bytes_at(image, part->debounce_count, 1) : 0,
         image->status, image->line,
         image->pointer, image->bus, image->choice, image->mode,
-        [PART_WORD] = part->number,
+        image->number, image->place,
+        part->number,
     }};
 }
 

@@ -3,7 +3,7 @@
 from collections import namedtuple
 from functools import lru_cache
 
-IDLE, OPENED, CHOSEN, FILLING, SENDING, CALL, ARMED, DEAF = range(8)
+IDLE, OPENED, CHOSEN, FILLING, SENDING, CALL, ARMED, DEAF, ASKING, NAMED, REOPENED, TELLING = range(12)
 START, STOP, BYTE, FETCH, LEVELS, RESET = range(6)
 
 # Numbers from first to last; the bits are those that the last one has, all others have eight.
@@ -51,13 +51,19 @@ GROUPS34 = (
 # An event of a burst, and how many of them one call may be asked.
 EVENT_BYTES, MOST_EVENTS = 12, 512
 
-Image = namedtuple('Image', 'registers level reference held edge pointer bus choice status line mode')
+Image = namedtuple('Image', 'registers level reference held edge pointer bus choice status line mode number place')
 
 # INT's level, as the line is kept.
 ASSERTED, QUIET = 0, 1
 
 # How the pointer steps: the bit of a command byte above the register's number.
 IN_GROUP, OVER_MAP = 0, 1
+
+# The address bytes of the Device ID, which no device has for its own: to ask a device for its number, to have it told.
+ASK, TELL = 0xF8, 0xF9
+
+# A device's number: its bytes, and the first number that they do not hold.
+NUMBER_BYTES, NUMBER_LIMIT = 3, 1 << 24
 
 
 class Part:
@@ -95,7 +101,17 @@ PARTS = {24: Part(24, GROUPS24, 16), 34: Part(34, GROUPS34, 26)}
 
 def pin_set(marks):
     """The number whose bit i is mark i."""
-    return sum(1 << i for i, mark in enumerate(marks) if mark)
+    number, bit = 0, 1
+    for mark in marks:
+        if mark:
+            number |= bit
+        bit <<= 1
+    return number
+
+
+def pin_marks(number, pins):
+    """So many marks, mark i the number's bit i."""
+    return [number >> i & 1 == 1 for i in range(pins)]
 
 
 class Pin:
@@ -114,24 +130,23 @@ class Device:
         self.part = part = self.parts[which]
         self.map = part.map
         self.registers = list(image.registers)
-        self.pins = [
-            Pin(*(bool(marks >> i & 1) for marks in (image.level, image.reference, image.held, image.edge)))
-            for i in range(part.pins)
-        ]
+        self.pins = [Pin(*marks) for marks in zip(*(
+            pin_marks(marks, part.pins) for marks in (image.level, image.reference, image.held, image.edge)))]
         self.pointer, self.bus, self.choice = image.pointer, image.bus, image.choice
-        self.status, self.line = [bool(image.status >> i & 1) for i in range(part.pins)], image.line
+        self.status, self.line = pin_marks(image.status, part.pins), image.line
         self.mode = image.mode
+        self.number, self.place = image.number, image.place
         # A device loaded from a broken image answers each step with refusal 3.
         self.broken = self.image_broken(image)
         # The drives are worked out again only after something that can move them.
         self.changed = True
 
     @classmethod
-    def make(cls, which, choice, levels):
+    def make(cls, which, choice, levels, number=0):
         """A device at power-on, or refusal 2."""
-        if cls.make_too_large(which, choice, levels):
+        if cls.make_too_large(which, choice, levels, number):
             return ('refused', 2)
-        device = cls(which, Image([0] * 128, levels, 0, 0, 0, 0, IDLE, choice, 0, QUIET, IN_GROUP))
+        device = cls(which, Image([0] * 128, levels, 0, 0, 0, 0, IDLE, choice, 0, QUIET, IN_GROUP, number, 0))
         device.reset()
         # What the reset made is judged as every image is, and not what it was made from.
         return cls(which, device.image())
@@ -143,14 +158,14 @@ class Device:
             pin_set(pin.reference for pin in self.pins),
             pin_set(pin.held for pin in self.pins),
             pin_set(pin.edge for pin in self.pins),
-            self.pointer, self.bus, self.choice, pin_set(self.status), self.line, self.mode)
+            self.pointer, self.bus, self.choice, pin_set(self.status), self.line, self.mode, self.number, self.place)
 
     # Refusals.
 
     @classmethod
-    def make_too_large(cls, which, choice, levels):
-        """Refusal 2 of a new device: choice over 3, levels with a pin past the last."""
-        return choice > 3 or levels >= cls.parts[which].limit
+    def make_too_large(cls, which, choice, levels, number):
+        """Refusal 2 of a new device: choice over 3, levels with a pin past the last, a number past its bytes."""
+        return choice > 3 or levels >= cls.parts[which].limit or number >= NUMBER_LIMIT
 
     def image_broken(self, image):
         """Refusal 3: any one of these faults."""
@@ -162,15 +177,17 @@ class Device:
                        for n, value in enumerate(image.registers) if value)
                 or self.status_broken(image.status)
                 or self.line_broken(image.line)
-                or self.mode_broken(image.mode))
+                or self.mode_broken(image.mode)
+                or self.number_broken(image.number)
+                or self.place_broken(image.place))
 
     def pointer_broken(self, pointer):
         """A pointer over 7Fh or at a reserved number."""
         return pointer > 0x7F or self.map[pointer] is None
 
     def bus_broken(self, bus):
-        """There are eight bus states."""
-        return bus > 7
+        """There are twelve bus states."""
+        return bus > TELLING
 
     def choice_broken(self, choice):
         """There are four addresses."""
@@ -201,6 +218,14 @@ class Device:
     def mode_broken(self, mode):
         """There are two ways to step."""
         return mode > OVER_MAP
+
+    def number_broken(self, number):
+        """A number that its bytes do not hold."""
+        return number >= NUMBER_LIMIT
+
+    def place_broken(self, place):
+        """A place past the number's last byte, whatever the bus state."""
+        return place >= NUMBER_BYTES
 
     def refusal(self, kind, arg):
         """The image first, then the kind, then the argument; None if the step is taken."""
@@ -242,7 +267,7 @@ class Device:
         elif kind == FETCH:
             return self.fetch(arg == 1)
         elif kind == LEVELS:
-            self.levels([bool(arg >> i & 1) for i in range(self.part.pins)])
+            self.levels(pin_marks(arg, self.part.pins))
         else:
             self.reset()
         return '-'
@@ -297,8 +322,12 @@ class Device:
         return not self.part.wide and rest != 0
 
     def start(self):
-        """START opens a transaction from any state; pointer and mode stay."""
-        self.bus = OPENED
+        """START opens a transaction from any state, and again where the device was named; pointer and mode stay."""
+        self.bus = REOPENED if self.start_repeats() else OPENED
+
+    def start_repeats(self):
+        """The START after the name is the repeated one, and so is every further one that follows it."""
+        return self.bus in (NAMED, REOPENED)
 
     def stop(self):
         """STOP ends it; an armed general call resets the device first."""
@@ -319,6 +348,14 @@ class Device:
             return self.armed_byte(value)
         if self.bus == SENDING:
             return self.sending_byte(value)
+        if self.bus == ASKING:
+            return self.asking_byte(value)
+        if self.bus == NAMED:
+            return self.named_byte(value)
+        if self.bus == REOPENED:
+            return self.reopened_byte(value)
+        if self.bus == TELLING:
+            return self.telling_byte(value)
         return self.unheard_byte(value)
 
     def address(self):
@@ -326,13 +363,15 @@ class Device:
         return 0x20 + self.choice
 
     def opened_byte(self, value):
-        """The own address to write or to read, the general call, or someone else's."""
+        """The own address to write or to read, the general call, the question for a number, or someone else's address."""
         if value == 2 * self.address():
             self.bus = CHOSEN
         elif value == 2 * self.address() + 1:
             self.bus = SENDING
         elif value == 0x00:
             self.bus = CALL
+        elif value == ASK:
+            self.bus = ASKING
         else:
             self.bus = DEAF
             return 'nak'
@@ -379,6 +418,29 @@ class Device:
         self.bus = DEAF
         return 'nak'
 
+    def asking_byte(self, value):
+        """Whose number is meant: the own address names this device, whatever its lowest bit."""
+        named = value >> 1 == self.address()
+        self.bus = NAMED if named else DEAF
+        return 'ack' if named else 'nak'
+
+    def named_byte(self, value):
+        """Without the repeated START nothing is told."""
+        self.bus = DEAF
+        return 'nak'
+
+    def reopened_byte(self, value):
+        """Now the number may be told, from its first byte on; any other byte is as after the first START."""
+        if value != TELL:
+            return self.opened_byte(value)
+        self.bus, self.place = TELLING, 0
+        return 'ack'
+
+    def telling_byte(self, value):
+        """The device is telling its number, so a byte from the master is nothing it knows."""
+        self.bus = DEAF
+        return 'nak'
+
     def unheard_byte(self, value):
         """Idle and Deaf: nobody listens."""
         return 'nak'
@@ -397,9 +459,14 @@ class Device:
         return next((following for following in range(number + 1, 128) if self.map[following]), 0x00)
 
     def fetch(self, acknowledged):
+        if self.bus == SENDING:
+            return self.sending_fetch(acknowledged)
+        if self.bus == TELLING:
+            return self.telling_fetch(acknowledged)
+        return self.stray_fetch()
+
+    def sending_fetch(self, acknowledged):
         """The byte at the pointer; it is formed before its pins are settled."""
-        if self.bus != SENDING:
-            return self.stray_fetch()
         value = self.byte_at(self.pointer)
         self.settle_fetched(self.settled_by_fetch(self.pointer, acknowledged))
         self.after_fetch(acknowledged)
@@ -427,6 +494,27 @@ class Device:
             self.pointer = self.next_number(self.pointer)
         else:
             self.bus = DEAF
+
+    def telling_fetch(self, acknowledged):
+        """The number's byte at the place; no pin and no register has to do with it."""
+        value = self.number_byte(self.place)
+        self.after_telling(acknowledged)
+        return value
+
+    def number_byte(self, place):
+        """The highest byte comes first."""
+        return self.number >> 8 * (NUMBER_BYTES - 1 - place) & 0xFF
+
+    def after_telling(self, acknowledged):
+        """Acknowledged, the place steps; not acknowledged, the master has ended the read."""
+        if acknowledged:
+            self.place = self.next_place(self.place)
+        else:
+            self.bus = DEAF
+
+    def next_place(self, place):
+        """After the lowest byte the highest comes again."""
+        return (place + 1) % NUMBER_BYTES
 
     def levels(self, new):
         """Each pin's marks are judged by its old level, then it takes the new one; any status bit may be another."""
@@ -463,10 +551,11 @@ class Device:
     # Resets.
 
     def reset(self):
-        """Defaults, pointer 00h, steps in the group, Idle, nothing held; levels and address stay."""
+        """Defaults, pointer 00h, steps in the group, place 0, Idle, nothing held; levels, address and number stay."""
         self.registers = self.reset_registers()
         self.pointer = self.reset_pointer()
         self.mode = self.reset_mode()
+        self.place = self.reset_place()
         self.bus = self.reset_bus()
         for i in range(self.part.pins):
             self.reset_pin(i)
@@ -481,6 +570,9 @@ class Device:
 
     def reset_mode(self):
         return IN_GROUP
+
+    def reset_place(self):
+        return 0
 
     def reset_bus(self):
         return IDLE
@@ -649,7 +741,7 @@ class Device:
 
     def status_bit(self, i):
         """Only an unmasked input can ask for attention."""
-        return self.is_input(i) and not self.masked(i) and self.pending(i)
+        return not self.masked(i) and self.is_input(i) and self.pending(i)
 
     def status_bits(self):
         """All of them as the rules work them out, whatever is kept."""

@@ -1,7 +1,8 @@
 """Seeded generators for either part: trace logs, probe, view and burst lines, the planner's starts and goals."""
 
-from device import (ASSERTED, BYTE, CALL, CHOSEN, EVENT_BYTES, FETCH, FILLING, IN_GROUP, LEVELS, MOST_EVENTS, OPENED,
-                    OVER_MAP, PARTS, QUIET, SENDING, Device, Image, kept_image)
+from device import (ASK, ASKING, ASSERTED, BYTE, CALL, CHOSEN, EVENT_BYTES, FETCH, FILLING, IN_GROUP, LEVELS, MOST_EVENTS,
+                    NAMED, NUMBER_BYTES, NUMBER_LIMIT, OPENED, OVER_MAP, PARTS, QUIET, REOPENED, SENDING, START, TELL,
+                    TELLING, Device, Image, kept_image)
 from probe import WIDTHS, image_fields
 
 
@@ -50,13 +51,15 @@ OUTPUT_READS = {'input port': 4, 'input status': 4, 'interrupt status': 1, 'outp
 
 # Writes, reads, and the weights of a log's acts in the order of `Log.go_on`.
 TEMPERS = (
-    (MIXED_WRITES, MIXED_READS, (30, 5, 0.3, 16, 20, 10, 4, 6, 3, 5, 3, 1, 0.3)),
-    (MIXED_WRITES, MIXED_READS, (30, 5, 0.3, 16, 20, 10, 4, 6, 3, 5, 3, 1, 0.3)),
-    (MARK_WRITES, MARK_READS, (20, 20, 0.3, 5, 20, 0.5, 0.3, 0.3, 0.3, 0.3, 1, 2.5, 0.1)),
-    (MARK_WRITES, MARK_READS, (20, 20, 0.3, 5, 20, 0.5, 0.3, 0.3, 0.3, 0.3, 1, 2.5, 0.1)),
-    (OUTPUT_WRITES, OUTPUT_READS, (30, 0, 0.3, 30, 15, 0.5, 1, 0.3, 0.3, 0.3, 1, 0.3, 0.1)),
+    (MIXED_WRITES, MIXED_READS, (30, 5, 0.3, 16, 20, 10, 4, 1, 6, 3, 5, 3, 1, 0.3)),
+    (MIXED_WRITES, MIXED_READS, (30, 5, 0.3, 16, 20, 10, 4, 1, 6, 3, 5, 3, 1, 0.3)),
+    (MARK_WRITES, MARK_READS, (20, 20, 0.3, 5, 20, 0.5, 0.3, 0.3, 0.3, 0.3, 0.3, 1, 2.5, 0.1)),
+    (MARK_WRITES, MARK_READS, (20, 20, 0.3, 5, 20, 0.5, 0.3, 0.3, 0.3, 0.3, 0.3, 1, 2.5, 0.1)),
+    (OUTPUT_WRITES, OUTPUT_READS, (30, 0, 0.3, 30, 15, 0.5, 1, 0.3, 0.3, 0.3, 0.3, 1, 0.3, 0.1)),
     # Mostly pins that turn from input to output and back.
-    (MARK_WRITES, MARK_READS, (2, 2, 20, 1, 2, 0.1, 0.1, 0.1, 0.1, 0.1, 0.3, 0.3, 0.1)),
+    (MARK_WRITES, MARK_READS, (2, 2, 20, 1, 2, 0.1, 0.1, 0.1, 0.1, 0.1, 0.1, 0.3, 0.3, 0.1)),
+    # Mostly hosts that ask for the number.
+    (MIXED_WRITES, MIXED_READS, (1, 0.1, 0.1, 0.5, 0.5, 0.3, 0.5, 20, 0.3, 0.3, 0.3, 0.1, 0.1, 0.1)),
 )
 # How often a log's commands step over the whole map.
 OVER_MAP_SHARES = (0, 0, 0.2, 0.7)
@@ -188,7 +191,8 @@ class Log:
             elif pin // 8 == number - group.first:
                 bit = self.rng.random() < (0.25 if group.name == 'interrupt mask' else 0.5)
                 base = base & ~(1 << pin % 8) | bit << pin % 8
-        return base
+        # Bits that are no pin's are ignored, so that they may be anything.
+        return base ^ self.rng.randrange(256) & ~self.part.bits[number]
 
     def write(self):
         """A write of one or more registers, sometimes cut short or with a command not known."""
@@ -212,9 +216,7 @@ class Log:
         for _ in range(rng.randrange(3)):
             self.event('byte\t%02x' % rng.randrange(256))
         if rng.random() < 0.5:
-            self.start(1)
-            for _ in range(rng.randint(1, 4)):
-                self.event('fetch\t1')
+            self.read_on()
 
     def walk(self):
         """Over the end of a group, around the top or over the whole map, written, read, or read after a STOP or a reset."""
@@ -242,6 +244,46 @@ class Log:
             self.event('fetch\t1')
         if rng.random() < 0.4:
             self.event('fetch\t0')
+            self.read_on()
+
+    def inventory(self):
+        """A host that asks for the number, perhaps with one step wrong; what it reads next shows that the pointer stayed."""
+        rng = self.rng
+        if rng.random() < 0.4:
+            self.start(0)
+            self.command(rng.choice((rng.choice(self.part.groups).last, self.register(self.part.named['input port']))),
+                         rng.choice((None, OVER_MAP)))
+        steps = ['start', 'byte\tf8', self.own_byte(), 'start', 'byte\tf9']
+        if rng.random() < 0.7:
+            self.go_wrong(steps)
+        steps += ['fetch\t1'] * rng.choice((0, 1, 1, 2, 3, 3, 4, 7))
+        # What ends it, and a fetch that shows whether it has ended.
+        byte = rng.choice((self.own_byte(), 'byte\t%02x' % rng.choice((ASK, TELL, 0x00, rng.randrange(256)))))
+        steps += rng.choice(([], ['fetch\t0', 'fetch\t1'], ['stop', 'fetch\t1'], ['start', 'byte\tf9'], [byte, 'fetch\t1']))
+        for step in steps:
+            self.event(step)
+        rng.choice((self.read_on, self.read_on, self.read_on, self.read, self.write))()
+
+    def go_wrong(self, steps):
+        """One step of an inventory is forgotten, or something else is said before it or in its stead."""
+        rng, own = self.rng, self.own_byte()
+        other = 'byte\t%02x' % rng.choice((rng.randrange(0x40, 0x48), rng.randrange(0x40, 0x48), rng.randrange(256)))
+        said = rng.choice(([], ['start'], ['stop'], ['byte\tf8'], ['byte\tf9'], ['byte\t00'], [own], [other], [other],
+                           ['fetch\t%d' % rng.randrange(2)], ['reset'],
+                           # All over again, or only F8h.
+                           ['byte\tf8', own, 'start'], ['byte\tf8', 'start']))
+        place = rng.choices(range(len(steps)), (1, 1, 3, 3, 3))[0]
+        steps[place:place + (not said or rng.random() < 0.3)] = said
+
+    def own_byte(self):
+        """The own address with either lowest bit."""
+        return 'byte\t%02x' % (0x40 + 2 * self.choice + self.rng.randrange(2))
+
+    def read_on(self):
+        """A read of a few registers from where the pointer stands."""
+        self.start(1)
+        for _ in range(self.rng.randint(1, 4)):
+            self.event('fetch\t1')
 
     def read(self):
         """A read from a register just named, or from where the pointer stands."""
@@ -319,7 +361,7 @@ class Log:
     def read_back(self):
         """Any register written and read again, perhaps with a reset between."""
         rng = self.rng
-        number = rng.choice(KNOWN[self.which])
+        number = rng.choice(PARTLY_STORED[self.which] if rng.random() < 0.2 else KNOWN[self.which])
         self.start(0)
         self.command(number)
         for _ in range(rng.randint(1, 3)):
@@ -369,7 +411,7 @@ class Log:
 
     def other_address(self):
         self.event('start')
-        self.event('byte\t%02x' % self.rng.choice((0xF8, 0xF9, 0x01, 0x06, self.rng.randrange(0x3E, 0x4A))))
+        self.event('byte\t%02x' % self.rng.choice((0xF9, 0x01, 0x06, self.rng.randrange(0x3E, 0x4A))))
         self.event('byte\t%02x' % self.rng.choice(KNOWN[self.which]))
         self.event('fetch\t1')
 
@@ -394,7 +436,8 @@ class Log:
     def go_on(self, length, weights):
         """Acts by chance until the log has so many lines; what an act left in the status is looked at now and then."""
         acts = (self.write, self.hide_and_show, self.turn_around, self.read, self.levels, self.read_back, self.walk,
-                self.general_call, self.stray, self.other_address, self.garbage, self.hard_reset, self.later_device)
+                self.inventory, self.general_call, self.stray, self.other_address, self.garbage, self.hard_reset,
+                self.later_device)
         while len(self.lines) < length:
             self.rng.choices(acts, weights)[0]()
             if self.rng.random() < 0.3:
@@ -489,14 +532,16 @@ def random_registers(rng, which):
 def meant_event(rng, which, bus, choice):
     """An event that means something in this bus state."""
     kind = rng.choices(range(6), (1, 1, 6, 4, 4, 1))[0]
-    if bus in (FILLING, CHOSEN, OPENED, CALL) and rng.random() < 0.6:
+    if bus in (FILLING, CHOSEN, OPENED, CALL, ASKING, REOPENED) and rng.random() < 0.6:
         kind = BYTE
-    if bus == SENDING and rng.random() < 0.7:
+    if bus in (SENDING, TELLING) and rng.random() < 0.7:
         kind = FETCH
+    if bus == NAMED and rng.random() < 0.4:
+        kind = START
     if kind == BYTE:
         arg = rng.choice((rng.randrange(256), 0x00, 0xFF, 1 << rng.randrange(8)))
-        if bus == OPENED:
-            arg = rng.choice((arg, 0x40 + 2 * choice, 0x41 + 2 * choice, 0x00, rng.randrange(0x3E, 0x4A), 0xF8, 0xF9))
+        if bus in (OPENED, ASKING, NAMED, REOPENED, TELLING):
+            arg = rng.choice((arg, 0x40 + 2 * choice, 0x41 + 2 * choice, 0x00, rng.randrange(0x3E, 0x4A), ASK, TELL))
         elif bus == CHOSEN:
             known_number, refused = rng.choice(KNOWN[which]), rng.choice(RESERVED[which]) | rng.choice((0, 0x80))
             arg = rng.choice((arg, known_number, refused, 0x80 | known_number))
@@ -512,28 +557,28 @@ def meant_event(rng, which, bus, choice):
 
 
 def over(rng, limit, top):
-    """A number just at a limit, or past it, or past it only beyond the lower bytes."""
+    """A number just at a limit, often, or past it, or past it only beyond the lower bytes."""
     shifts = [1 << s for s in (8, 16, 24, 32, 40, 63) if limit < 1 << s < top]
-    return rng.choice([limit, limit + 1, top - 1, rng.randrange(limit, top)] + shifts)
+    return rng.choice([limit] * 3 + [limit + 1, top - 1, rng.randrange(limit, top)] + shifts)
 
 
 def broken_image(rng, which, image):
     """The image with one of refusal 3's faults, and no other: status and line fit the rest, or only they do not."""
     part, registers = PARTS[which], list(image.registers)
-    way = rng.randrange(14)
+    way = rng.randrange(16)
     if way == 0:
         return image._replace(pointer=rng.choice(RESERVED[which]))
     if way == 1:
         return image._replace(pointer=rng.choice((0x7F, over(rng, 0x80, 256), 0x80 | rng.choice(KNOWN[which]))))
     if way == 2:
-        return image._replace(bus=over(rng, 8, 256))
+        return image._replace(bus=over(rng, TELLING + 1, 256))
     if way == 3:
         return image._replace(choice=over(rng, 4, 256))
     if way == 4:
         name = rng.choice(('level', 'reference', 'held', 'edge'))
         return kept_image(which, image._replace(**{name: rng.choice((part.limit, over(rng, part.limit, 1 << 64)))}))
     if way == 5:
-        number = rng.choice(PARTLY_STORED[which] + [part.port_kind])
+        number = rng.choice((rng.choice(PARTLY_STORED[which]), part.port_kind))
         unused = 0xFF & ~part.bits[number]
         registers[number] |= rng.choice((unused & -unused, unused, rng.randrange(1, 256) & unused or unused))
         if rng.random() < 0.5:
@@ -545,8 +590,12 @@ def broken_image(rng, which, image):
         registers[rng.choice((group.first, group.last, part.clear, 0x77, 0x7F))] = rng.randrange(1, 256)
     elif way == 8:
         return image._replace(mode=rng.choice((over(rng, 2, 256), 0x80 | rng.randrange(2))))
+    elif way == 9:
+        return image._replace(number=rng.choice((over(rng, NUMBER_LIMIT, 1 << 32), 1 << 31, image.number | NUMBER_LIMIT)))
+    elif way == 10:
+        return image._replace(place=over(rng, NUMBER_BYTES, 256))
     else:
-        return wrongly_kept(rng, which, image, way - 9)
+        return wrongly_kept(rng, which, image, way - 11)
     # Bits that are cleared may move status and line.
     return kept_image(which, image._replace(registers=tuple(registers)))
 
@@ -572,7 +621,7 @@ def spoiled_line(rng, line):
     """The line made unreadable."""
     fields = line.split(b'\t')
     place = rng.randrange(len(fields))
-    way = rng.randrange(10)
+    way = rng.randrange(11)
     if way == 0:
         del fields[place]
     elif way == 1:
@@ -589,9 +638,9 @@ def spoiled_line(rng, line):
         fields[-1] += b'\r'
     elif way == 7:
         return rng.choice((b'', b'\t', b'start', b'0' * len(line), b'0' * 5000))
-    elif way == 8:
-        # There is one form: an image without the mode is none, nor one without status and line too.
-        del fields[rng.choice((8, 10)):11]
+    elif way in (8, 9):
+        # There is one form: an image without number and place is none, nor one without the mode too, nor status and line.
+        del fields[rng.choice((8, 10, 11)):13]
     else:
         fields[place] = b''
     return b'\t'.join(fields)
@@ -606,6 +655,11 @@ def unmask_few(which, registers, pins):
         registers[part.mask + pin // 8] &= ~(1 << pin % 8)
 
 
+def random_number(rng):
+    """Mostly three bytes that differ; small ones, the smallest and the largest too."""
+    return rng.choice((rng.randrange(NUMBER_LIMIT), rng.randrange(NUMBER_LIMIT), rng.randrange(256), 0, NUMBER_LIMIT - 1))
+
+
 def sound_image(rng, which, pointer, bus):
     """A well-formed image; a few pins and, of the sister, the last port's differ most from one to the next."""
     pins = PARTS[which].pins
@@ -615,7 +669,8 @@ def sound_image(rng, which, pointer, bus):
         unmask_few(which, registers, focus[:rng.randint(1, 3)])
     return kept_image(which, Image(tuple(registers),
                                    *(random_marks(rng, which, focus) for _ in range(4)),
-                                   pointer, bus, rng.randrange(4), 0, QUIET, rng.randrange(2)))
+                                   pointer, bus, rng.randrange(4), 0, QUIET, rng.randrange(2),
+                                   random_number(rng), rng.randrange(NUMBER_BYTES)))
 
 
 def argument_limits(which):
@@ -626,7 +681,7 @@ def argument_limits(which):
 def image_line(rng, which):
     """A probe line with its newline: mostly a well-formed image and a fitting event."""
     named = PARTS[which].named
-    bus = rng.choices(range(8), (1, 2, 2, 8, 5, 1, 2, 1))[0]
+    bus = rng.choices(range(TELLING + 1), (1, 2, 2, 8, 5, 1, 2, 1, 1, 1, 2, 2))[0]
     number = rng.choice(KNOWN[which])
     if bus == FILLING and rng.random() < 0.7:
         group = named[rng.choice(list(MARK_WRITES))]
@@ -662,7 +717,7 @@ def register_number(rng, which):
 
 def view_line(rng, which):
     """An image and a register number with their newline: two images in three are well formed."""
-    image = sound_image(rng, which, rng.choice(KNOWN[which]), rng.randrange(8))
+    image = sound_image(rng, which, rng.choice(KNOWN[which]), rng.randrange(TELLING + 1))
     if rng.random() < 0.33:
         image = broken_image(rng, which, image)
     line = ('%s\t%08x' % (image_fields(image), register_number(rng, which))).encode()
@@ -732,7 +787,7 @@ def burst_of_eight(rng, data, asked, room):
 
 def burst_line(rng, which):
     """A burst line with its newline: half of the bursts are done whole, the others refused at some event or with 8."""
-    image = sound_image(rng, which, rng.choice(KNOWN[which]), rng.randrange(8))
+    image = sound_image(rng, which, rng.choice(KNOWN[which]), rng.randrange(TELLING + 1))
     count = rng.choices(BURST_SIZES, BURST_WEIGHTS)[0]
     count = rng.choice(LONGEST_BURSTS) if rng.random() < 0.02 else rng.randint(count // 2, count)
     events = meant_events(rng, which, image, count)

@@ -4,7 +4,8 @@ import random
 import re
 from functools import lru_cache
 
-from device import BYTE, IN_GROUP, PARTS, QUIET, START, Device, Image, settings_drives, settings_image
+from device import (BYTE, IN_GROUP, NUMBER_BYTES, NUMBER_LIMIT, PARTS, QUIET, START, Device, Image, settings_drives,
+                    settings_image)
 
 RESTS = 3
 
@@ -31,7 +32,7 @@ def drive(output, configuration, kind, port_bit):
     registers = part.power_on()
     registers[part.output], registers[part.configuration] = output, configuration
     registers[part.pin_kind], registers[part.port_kind] = kind, port_bit
-    return Device(24, Image(registers, 0, 0, 0, 0, 0, 0, 0, 0, QUIET, IN_GROUP)).drive(0)
+    return Device(24, Image(registers, 0, 0, 0, 0, 0, 0, 0, 0, QUIET, IN_GROUP, 0, 0)).drive(0)
 
 
 def move_allowed(start, goal, before, after):
@@ -105,7 +106,8 @@ def random_rest(which, rng):
     registers = [rng.getrandbits(8) & stored if stored else 0 for stored in part.stored]
     pointer = rng.choice([n for n in range(128) if part.map[n]])
     marks = (rng.randrange(part.limit) for _ in range(4))
-    return Image(tuple(registers), *marks, pointer, 0, rng.randrange(4), 0, QUIET, rng.randrange(2))
+    return Image(tuple(registers), *marks, pointer, 0, rng.randrange(4), 0, QUIET, rng.randrange(2),
+                 rng.randrange(NUMBER_LIMIT), rng.randrange(NUMBER_BYTES))
 
 
 def send(device, register, value):

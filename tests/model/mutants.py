@@ -3,9 +3,12 @@
 A mutant of the device is tried on each part that it is about, the other part being right: on both, if it does not say.
 """
 
-from device import (ARMED, ASSERTED, BYTE, CALL, CHOSEN, DEAF, EVENT_BYTES, FETCH, FILLING, IDLE, IN_GROUP, LEVELS,
-                    MOST_EVENTS, OPENED, OVER_MAP, PARTS, QUIET, RESET, SENDING, Device, Part, Pin, pin_set)
+from device import (ARMED, ASK, ASKING, ASSERTED, BYTE, CALL, CHOSEN, DEAF, EVENT_BYTES, FETCH, FILLING, IDLE, IN_GROUP,
+                    LEVELS, MOST_EVENTS, NAMED, NUMBER_BYTES, NUMBER_LIMIT, OPENED, OVER_MAP, PARTS, QUIET, REOPENED, RESET,
+                    SENDING, TELL, TELLING, Device, Part, Pin, pin_set, power_on_image)
 from judge import Planner
+from probe import IMAGE_WIDTHS, WIDTHS, image_fields
+from probe import read_line as probe_line
 from trace import Session, answer_line
 
 # Name of a mutant that no output can tell from the model, and why.
@@ -13,7 +16,7 @@ SURVIVORS = {}
 
 # The mutants that no log can tell from the model: from power-on no log leads to the marks on which they differ; or a
 # log loads no image, and no line of it has an unknown kind or an argument too large or not asked for; or they differ
-# only in what an image alone shows, such as Idle from Deaf.
+# only in what an image alone shows, such as Idle from Deaf, or in a number, which is 0 in every log.
 ONLY_BY_IMAGES = frozenset('''
     interrupt_status_is_stored input_status_is_stored input_port_is_stored
     OutputShowsHeld HeldShowsWithoutLatch EdgeCountsWithoutField
@@ -23,7 +26,7 @@ ONLY_BY_IMAGES = frozenset('''
     ResetKeepsHeld ResetDeafens LastFetchGoesIdle IdleByteDeafens
     KindSixPasses KindLowByteOnly ByteLimitOneMore FetchLimitOneMore LevelsLimitOneMore ArgumentLowWordOnly
     StartChecksArgument ResetChecksArgument KindBeforeImage ArgumentBeforeImage
-    ReservedPointerPasses LargePointerPasses BusStateEightPasses BusStateSevenFails ChoiceFourPasses
+    ReservedPointerPasses LargePointerPasses BusStateTwelvePasses BusStateElevenFails BusStateEightFails ChoiceFourPasses
     PortKindOneMorePasses PortKindOfAllFails ReservedEntryPasses ReadOnlyEntryPasses ClearEntryPasses LastEntryUnchecked
     HeldWithoutLatchFails LargeLevelPasses LargeReferencePasses LargeHeldPasses LargeEdgePasses
     LineKeptAsAsserted StatusUnjudged LineUnjudged StatusAndLineUnjudged StatusJudgedWithoutMask LineJudgedByKeptStatus
@@ -31,6 +34,13 @@ ONLY_BY_IMAGES = frozenset('''
     LevelsLimitOf32Bits LevelsLimitOf36 LevelLimitOf36 ReferenceLimitOf36 HeldLimitOf24 HeldLimitOf36 EdgeLimitOf24
     EdgeLimitOf36 PortKindLimitOf24 PortKindLimitNone LastPortUnjudged PointersOf24
     ModeTwoPasses ModeUnjudged ModeOneFails ModeJudgedByTopBit ModeNotTold ModeNotTaken
+    LowestByteFirst HighestByteNotTold PlaceStays PlaceStopsAtLast PlaceStepsDown LastTellSteps LastTellClearsPlace
+    LastTellGoesIdle OtherNameGoesIdle TellKeepsPlace ResetKeepsPlace HardwareResetKeepsPlace SoftwareResetKeepsPlace
+    PlaceClearedByStart PlaceClearedByStop PlaceClearedByLevels PlaceClearedByName PlaceClearedByAddress
+    PlaceClearedByCommand PlaceClearedByTellingByte PlaceClearedByFetch PlaceClearedByAsk
+    ResetForgetsNumber HardwareResetForgetsNumber SoftwareResetForgetsNumber
+    NumberLimitPasses LargestNumberFails NumberUnjudged NumberJudgedByTopBit NumberNotTold NumberNotTaken
+    PlaceThreePasses PlaceTwoFails PlaceUnjudged PlaceJudgedWhileTelling PlaceNotTold PlaceNotTaken
 '''.split())
 
 # The mutants of what a host is told when it asks, and of when it is refused: no event asks.
@@ -51,7 +61,7 @@ ONLY_BY_BURSTS = frozenset('''
     EventWordsHighestFirst EventOfEightBytes ArgumentLowHalfOnly
     Burst513Passes Burst512Fails BurstGivenOver512Fails BurstRoomOneShortPasses BurstRoomForAllGiven
     BurstPartOfEventPasses BurstLessGivenPasses BurstEightAfterThree BurstEightTellsNone BurstOfNoneOnBrokenFails
-    BurstOfNoneTellsNoCount BurstLeavesStatus BurstLeavesLine BurstLeavesMode
+    BurstOfNoneTellsNoCount BurstLeavesStatus BurstLeavesLine BurstLeavesMode BurstLeavesPlace
 '''.split())
 
 MUTANTS = []
@@ -303,8 +313,8 @@ class LevelsLimitOf36(Device):
 @mutant_on(34)
 class MakeLimitOf24(Device):
     @classmethod
-    def make_too_large(cls, which, choice, levels):
-        return choice > 3 or levels >= PARTS[24].limit
+    def make_too_large(cls, which, choice, levels, number):
+        return levels >= PARTS[24].limit or super().make_too_large(which, choice, levels, number)
 
 
 def image_limit_mutant(name, limit, what):
@@ -1478,7 +1488,7 @@ class LevelsDisarm(Device):
 @mutant
 class StartResetsPointer(Device):
     def start(self):
-        self.bus = OPENED
+        super().start()
         self.pointer = 0
 
 
@@ -1486,28 +1496,28 @@ class StartResetsPointer(Device):
 class StartOnlyFromIdle(Device):
     def start(self):
         if self.bus == IDLE:
-            self.bus = OPENED
+            super().start()
 
 
 @mutant
 class StartNotFromIdle(Device):
     def start(self):
         if self.bus != IDLE:
-            self.bus = OPENED
+            super().start()
 
 
 @mutant
 class StartNotFromDeaf(Device):
     def start(self):
         if self.bus != DEAF:
-            self.bus = OPENED
+            super().start()
 
 
 @mutant
 class StartNotFromFilling(Device):
     def start(self):
         if self.bus != FILLING:
-            self.bus = OPENED
+            super().start()
 
 
 @mutant
@@ -1534,13 +1544,6 @@ class AddressCountsDown(Device):
 class AddressWithoutChoice(Device):
     def address(self):
         return 0x20
-
-
-@mutant
-class DeviceIdAcknowledged(Device):
-    def opened_byte(self, value):
-        answer = super().opened_byte(value)
-        return 'ack' if value == 0xF8 else answer
 
 
 @mutant
@@ -1875,8 +1878,8 @@ class ResetSetsMode(Device):
 @mutant
 class PowerOnSetsMode(Device):
     @classmethod
-    def make(cls, which, choice, levels):
-        made = super().make(which, choice, levels)
+    def make(cls, which, choice, levels, number=0):
+        made = super().make(which, choice, levels, number)
         return made if isinstance(made, tuple) else cls(which, made.image()._replace(mode=OVER_MAP))
 
 
@@ -2090,6 +2093,650 @@ class ModeNotTaken(Device):
             self.mode = IN_GROUP
 
 
+# The Device ID: who is asked for the number, when it is told, and what stays as it was.
+
+@mutant
+class AskIsAnotherAddress(Device):
+    def opened_byte(self, value):
+        return super().opened_byte(TELL if value == ASK else value)
+
+
+@mutant
+class AskOnlyAcknowledged(Device):
+    """Nobody answers what comes after it."""
+
+    def opened_byte(self, value):
+        answer = super().opened_byte(value)
+        if self.bus == ASKING:
+            self.bus = DEAF
+        return answer
+
+
+@mutant
+class AskNotKnownAgain(Device):
+    """After the repeated START F8h is another address."""
+
+    def reopened_byte(self, value):
+        if value == ASK:
+            self.bus = DEAF
+            return 'nak'
+        return super().reopened_byte(value)
+
+
+@mutant
+class AskedAgainStaysNamed(Device):
+    """F8h after the repeated START needs no name again."""
+
+    def reopened_byte(self, value):
+        answer = super().reopened_byte(value)
+        if value == ASK:
+            self.bus = NAMED
+        return answer
+
+
+@mutant
+class AskedAgainStaysReopened(Device):
+    def reopened_byte(self, value):
+        answer = super().reopened_byte(value)
+        if value == ASK:
+            self.bus = REOPENED
+        return answer
+
+
+@mutant
+class TellTakenForAsk(Device):
+    """The lowest bit of the first byte is ignored."""
+
+    def opened_byte(self, value):
+        return super().opened_byte(ASK if value == TELL else value)
+
+
+@mutant
+class AskTakenForTell(Device):
+    """The lowest bit of the byte after the repeated START is ignored."""
+
+    def reopened_byte(self, value):
+        return super().reopened_byte(TELL if value == ASK else value)
+
+
+@mutant
+class ToldWithoutAsking(Device):
+    """F9h is acknowledged after any START."""
+
+    def opened_byte(self, value):
+        return self.reopened_byte(value) if value == TELL else super().opened_byte(value)
+
+
+@mutant
+class ToldWithoutName(Device):
+    """F9h is acknowledged right after F8h."""
+
+    def asking_byte(self, value):
+        return self.reopened_byte(value) if value == TELL else super().asking_byte(value)
+
+
+@mutant
+class ToldWithoutRepeatedStart(Device):
+    """F9h is acknowledged right after the name."""
+
+    def named_byte(self, value):
+        return self.reopened_byte(value) if value == TELL else super().named_byte(value)
+
+
+@mutant
+class NeverTold(Device):
+    def reopened_byte(self, value):
+        return self.opened_byte(value)
+
+
+@mutant
+class TellNotAcknowledged(Device):
+    """But what is fetched after it is the number."""
+
+    def reopened_byte(self, value):
+        answer = super().reopened_byte(value)
+        return 'nak' if value == TELL else answer
+
+
+@mutant
+class TellSendsRegisters(Device):
+    def reopened_byte(self, value):
+        answer = super().reopened_byte(value)
+        if value == TELL:
+            self.bus = SENDING
+        return answer
+
+
+def name_mutant(name, is_own):
+    """A mutant that takes other bytes for its name."""
+    def asking_byte(self, value):
+        own = 2 * self.address() if is_own(self, value) else 0xFF
+        return Device.asking_byte(self, own)
+    mutant(type(name, (Device,), {'asking_byte': asking_byte}))
+
+
+name_mutant('NamedToWriteOnly', lambda device, value: value == 2 * device.address())
+name_mutant('NamedToReadOnly', lambda device, value: value == 2 * device.address() + 1)
+name_mutant('NamedByAnyByte', lambda device, value: True)
+name_mutant('NamedByAnyChoice', lambda device, value: 0x20 <= value >> 1 <= 0x23)
+name_mutant('NamedByFirstChoice', lambda device, value: value >> 1 == 0x20)
+name_mutant('NamedByCall', lambda device, value: value == 0x00 or value >> 1 == device.address())
+name_mutant('NamedByTell', lambda device, value: value == TELL or value >> 1 == device.address())
+
+
+@mutant
+class NameIsAnAddress(Device):
+    """After F8h a byte is what it is after START."""
+
+    def asking_byte(self, value):
+        return self.opened_byte(value)
+
+
+@mutant
+class NameNotAcknowledged(Device):
+    def asking_byte(self, value):
+        super().asking_byte(value)
+        return 'nak'
+
+
+@mutant
+class OtherNameKeepsAsking(Device):
+    def asking_byte(self, value):
+        answer = super().asking_byte(value)
+        if answer == 'nak':
+            self.bus = ASKING
+        return answer
+
+
+@mutant
+class OtherNameGoesIdle(Device):
+    def asking_byte(self, value):
+        answer = super().asking_byte(value)
+        if answer == 'nak':
+            self.bus = IDLE
+        return answer
+
+
+@mutant
+class AskTwiceKeepsAsking(Device):
+    def asking_byte(self, value):
+        return 'ack' if value == ASK else super().asking_byte(value)
+
+
+@mutant
+class CallWhileAsking(Device):
+    def asking_byte(self, value):
+        return self.opened_byte(value) if value == 0x00 else super().asking_byte(value)
+
+
+@mutant
+class NamedByteIgnored(Device):
+    def named_byte(self, value):
+        return 'nak'
+
+
+@mutant
+class NamedByteAcknowledged(Device):
+    def named_byte(self, value):
+        super().named_byte(value)
+        return 'ack'
+
+
+@mutant
+class NameTwiceKeepsNamed(Device):
+    def named_byte(self, value):
+        return 'ack' if value >> 1 == self.address() else super().named_byte(value)
+
+
+@mutant
+class NamedIsAskedAgain(Device):
+    def named_byte(self, value):
+        return self.opened_byte(value) if value == ASK else super().named_byte(value)
+
+
+@mutant
+class NamedTakesCommands(Device):
+    """The own address has chosen the device, as it does after START."""
+
+    def named_byte(self, value):
+        return self.chosen_byte(value)
+
+
+def reopened_deaf_to(name, unheard):
+    """A mutant that after the repeated START does not hear some bytes that it hears after the first."""
+    def reopened_byte(self, value):
+        return Device.reopened_byte(self, 0xFF if unheard(self, value) else value)
+    mutant(type(name, (Device,), {'reopened_byte': reopened_byte}))
+
+
+reopened_deaf_to('NoWriteAfterRepeatedStart', lambda device, value: value == 2 * device.address())
+reopened_deaf_to('NoReadAfterRepeatedStart', lambda device, value: value == 2 * device.address() + 1)
+reopened_deaf_to('NoCallAfterRepeatedStart', lambda device, value: value == 0x00)
+reopened_deaf_to('OnlyNumberAfterRepeatedStart', lambda device, value: value not in (ASK, TELL))
+
+
+@mutant
+class ReopenedByteIgnored(Device):
+    """Another address after the repeated START leaves F9h to come."""
+
+    def reopened_byte(self, value):
+        answer = super().reopened_byte(value)
+        if answer == 'nak':
+            self.bus = REOPENED
+        return answer
+
+
+@mutant
+class StartInAskingRepeats(Device):
+    def start_repeats(self):
+        return self.bus == ASKING or super().start_repeats()
+
+
+@mutant
+class StartInTellingRepeats(Device):
+    def start_repeats(self):
+        return self.bus == TELLING or super().start_repeats()
+
+
+@mutant
+class AnyRepeatedStartWillDo(Device):
+    """Every START with no STOP before it is a repeated one."""
+
+    def start_repeats(self):
+        return self.bus != IDLE
+
+
+@mutant
+class SecondStartSpoils(Device):
+    def start_repeats(self):
+        return self.bus == NAMED
+
+
+@mutant
+class NoStartRepeats(Device):
+    def start_repeats(self):
+        return False
+
+
+def event_kept_out(name, method, bus):
+    """A mutant in which an event leaves one bus state as it is."""
+    def event(self, *given):
+        if self.bus == bus:
+            return None
+        return getattr(Device, method)(self, *given)
+    mutant(type(name, (Device,), {method: event}))
+
+
+event_kept_out('StartKeepsAsking', 'start', ASKING)
+event_kept_out('StartKeepsNamed', 'start', NAMED)
+event_kept_out('StartKeepsTelling', 'start', TELLING)
+event_kept_out('StopKeepsAsking', 'stop', ASKING)
+event_kept_out('StopKeepsNamed', 'stop', NAMED)
+event_kept_out('StopKeepsReopened', 'stop', REOPENED)
+event_kept_out('StopKeepsTelling', 'stop', TELLING)
+
+
+@mutant
+class StopDoesNotSpoil(Device):
+    """Once named, a device waits for START and F9h over any STOP."""
+
+    def stop(self):
+        named = self.start_repeats()
+        super().stop()
+        if named:
+            self.bus = NAMED
+
+
+@mutant
+class ResetKeepsInventory(Device):
+    """What happens to the registers is nothing to the Device ID."""
+
+    def reset_bus(self):
+        return self.bus if self.bus in (ASKING, NAMED, REOPENED, TELLING) else super().reset_bus()
+
+
+def levels_deafen(name, *states):
+    """A mutant in which new levels end what goes on in these bus states."""
+    def levels(self, new):
+        Device.levels(self, new)
+        if self.bus in states:
+            self.bus = DEAF
+    mutant(type(name, (Device,), {'levels': levels}))
+
+
+levels_deafen('LevelsSpoil', ASKING, NAMED, REOPENED)
+levels_deafen('LevelsEndTelling', TELLING)
+
+
+def fetch_tells(name, bus):
+    """A mutant that tells its number too early."""
+    def stray_fetch(self):
+        return self.number_byte(self.place) if self.bus == bus else Device.stray_fetch(self)
+    mutant(type(name, (Device,), {'stray_fetch': stray_fetch}))
+
+
+fetch_tells('FetchWhileAskingTells', ASKING)
+fetch_tells('FetchWhileNamedTells', NAMED)
+fetch_tells('FetchWhileReopenedTells', REOPENED)
+
+
+@mutant
+class FetchSpoils(Device):
+    def stray_fetch(self):
+        if self.bus in (ASKING, NAMED, REOPENED):
+            self.bus = DEAF
+        return super().stray_fetch()
+
+
+@mutant
+class TellingByteIgnored(Device):
+    def telling_byte(self, value):
+        return 'nak'
+
+
+@mutant
+class TellingByteAcknowledged(Device):
+    def telling_byte(self, value):
+        super().telling_byte(value)
+        return 'ack'
+
+
+@mutant
+class TellingBeginsAgain(Device):
+    """By a further F9h."""
+
+    def telling_byte(self, value):
+        return self.reopened_byte(value) if value == TELL else super().telling_byte(value)
+
+
+@mutant
+class TellingHearsItsAddress(Device):
+    def telling_byte(self, value):
+        return self.opened_byte(value)
+
+
+@mutant
+class LowestByteFirst(Device):
+    def number_byte(self, place):
+        return super().number_byte(NUMBER_BYTES - 1 - place)
+
+
+@mutant
+class HighestByteNotTold(Device):
+    """A number of two bytes."""
+
+    def number_byte(self, place):
+        return super().number_byte(place) if place else 0x00
+
+
+@mutant
+class PlaceStays(Device):
+    def next_place(self, place):
+        return place
+
+
+@mutant
+class PlaceStopsAtLast(Device):
+    def next_place(self, place):
+        return min(place + 1, NUMBER_BYTES - 1)
+
+
+@mutant
+class PlaceStepsDown(Device):
+    """The place counts the bytes that are left."""
+
+    def next_place(self, place):
+        return (place - 1) % NUMBER_BYTES
+
+
+@mutant
+class ThreeBytesEndTelling(Device):
+    def after_telling(self, acknowledged):
+        last = self.place == NUMBER_BYTES - 1
+        super().after_telling(acknowledged)
+        if last:
+            self.bus = DEAF
+
+
+@mutant
+class LastTellKeepsTelling(Device):
+    def after_telling(self, acknowledged):
+        super().after_telling(acknowledged)
+        self.bus = TELLING
+
+
+@mutant
+class LastTellSteps(Device):
+    def after_telling(self, acknowledged):
+        super().after_telling(acknowledged)
+        if not acknowledged:
+            self.place = self.next_place(self.place)
+
+
+@mutant
+class LastTellClearsPlace(Device):
+    def after_telling(self, acknowledged):
+        super().after_telling(acknowledged)
+        if not acknowledged:
+            self.place = 0
+
+
+@mutant
+class LastTellGoesIdle(Device):
+    def after_telling(self, acknowledged):
+        super().after_telling(acknowledged)
+        if not acknowledged:
+            self.bus = IDLE
+
+
+@mutant
+class TellingIsNotDriven(Device):
+    def telling_fetch(self, acknowledged):
+        return self.stray_fetch()
+
+
+@mutant
+class TellingShowsRegister(Device):
+    def number_byte(self, place):
+        return self.byte_at(self.pointer)
+
+
+@mutant
+class TellingStepsPointer(Device):
+    def after_telling(self, acknowledged):
+        super().after_telling(acknowledged)
+        if acknowledged:
+            self.pointer = self.next_number(self.pointer)
+
+
+@mutant
+class TellingSettles(Device):
+    """As a fetch at the pointer does."""
+
+    def after_telling(self, acknowledged):
+        super().after_telling(acknowledged)
+        self.settle_fetched(self.settled_by_fetch(self.pointer, acknowledged))
+
+
+@mutant
+class TellKeepsPlace(Device):
+    """The number is told from where the last one to ask for it has left it."""
+
+    def reopened_byte(self, value):
+        place = self.place
+        answer = super().reopened_byte(value)
+        self.place = place
+        return answer
+
+
+@mutant
+class ResetKeepsPlace(Device):
+    def reset_place(self):
+        return self.place
+
+
+@mutant
+class HardwareResetKeepsPlace(Device):
+    def step(self, kind, arg):
+        place = self.place
+        answer = super().step(kind, arg)
+        if kind == RESET:
+            self.place = place
+        return answer
+
+
+@mutant
+class SoftwareResetKeepsPlace(Device):
+    def stop(self):
+        place = self.place
+        super().stop()
+        self.place = place
+
+
+@mutant
+class ResetForgetsNumber(Device):
+    def reset(self):
+        super().reset()
+        self.number = 0
+
+
+@mutant
+class HardwareResetForgetsNumber(Device):
+    def step(self, kind, arg):
+        answer = super().step(kind, arg)
+        if kind == RESET:
+            self.number = 0
+        return answer
+
+
+@mutant
+class SoftwareResetForgetsNumber(Device):
+    def stop(self):
+        armed = self.bus == ARMED
+        super().stop()
+        if armed:
+            self.number = 0
+
+
+def set_by(name, method, **changes):
+    """A mutant in which an event, or what comes of it, also sets something that it has nothing to do with."""
+    def event(self, *given):
+        answer = getattr(Device, method)(self, *given)
+        for what, value in changes.items():
+            setattr(self, what, value)
+        return answer
+    mutant(type(name, (Device,), {method: event}))
+
+
+set_by('PlaceClearedByStart', 'start', place=0)
+set_by('PlaceClearedByStop', 'stop', place=0)
+set_by('PlaceClearedByLevels', 'levels', place=0)
+set_by('PlaceClearedByName', 'asking_byte', place=0)
+set_by('PlaceClearedByAddress', 'opened_byte', place=0)
+set_by('PlaceClearedByCommand', 'chosen_byte', place=0)
+set_by('PlaceClearedByTellingByte', 'telling_byte', place=0)
+set_by('PlaceClearedByFetch', 'sending_fetch', place=0)
+set_by('PointerClearedByName', 'asking_byte', pointer=0x00)
+set_by('PointerClearedByTelling', 'telling_fetch', pointer=0x00)
+set_by('ModeClearedByName', 'asking_byte', mode=IN_GROUP)
+set_by('ModeClearedByTelling', 'telling_fetch', mode=IN_GROUP)
+
+
+def set_by_byte(name, byte, **changes):
+    """A mutant in which an acknowledged byte of the Device ID sets something beside the bus state."""
+    def heard(self, value):
+        before = self.bus
+        answer = Device.byte(self, value)
+        if value == byte and answer == 'ack' and before in (OPENED, REOPENED):
+            for what, new in changes.items():
+                setattr(self, what, new)
+        return answer
+    mutant(type(name, (Device,), {'byte': heard}))
+
+
+set_by_byte('PlaceClearedByAsk', ASK, place=0)
+set_by_byte('PointerClearedByAsk', ASK, pointer=0x00)
+set_by_byte('PointerClearedByTell', TELL, pointer=0x00)
+set_by_byte('ModeClearedByTell', TELL, mode=IN_GROUP)
+# Bit 7 of a command is the mode, and both bytes have it.
+set_by_byte('ModeSetByAsk', ASK, mode=OVER_MAP)
+set_by_byte('ModeSetByTell', TELL, mode=OVER_MAP)
+
+
+@mutant
+class NumberLimitPasses(Device):
+    def number_broken(self, number):
+        return number > NUMBER_LIMIT
+
+
+@mutant
+class LargestNumberFails(Device):
+    def number_broken(self, number):
+        return number >= NUMBER_LIMIT - 1
+
+
+@mutant
+class NumberUnjudged(Device):
+    def number_broken(self, number):
+        return False
+
+
+@mutant
+class NumberJudgedByTopBit(Device):
+    def number_broken(self, number):
+        return number >= 1 << 31
+
+
+@mutant
+class PlaceThreePasses(Device):
+    def place_broken(self, place):
+        return place > NUMBER_BYTES
+
+
+@mutant
+class PlaceTwoFails(Device):
+    def place_broken(self, place):
+        return place >= NUMBER_BYTES - 1
+
+
+@mutant
+class PlaceUnjudged(Device):
+    def place_broken(self, place):
+        return False
+
+
+@mutant
+class PlaceJudgedWhileTelling(Device):
+    """Where nobody fetches by it, any place passes."""
+
+    def place_broken(self, place):
+        return self.bus == TELLING and super().place_broken(place)
+
+
+def not_told(name, field):
+    """A mutant in whose images a field is always 0."""
+    def image(self):
+        return Device.image(self)._replace(**{field: 0})
+    mutant(type(name, (Device,), {'image': image}))
+
+
+not_told('NumberNotTold', 'number')
+not_told('PlaceNotTold', 'place')
+
+
+def not_taken(name, field):
+    """A mutant that judges a field of an image and drops it."""
+    def __init__(self, which, image):
+        Device.__init__(self, which, image)
+        if not self.broken:
+            setattr(self, field, 0)
+    mutant(type(name, (Device,), {'__init__': __init__}))
+
+
+not_taken('NumberNotTaken', 'number')
+not_taken('PlaceNotTaken', 'place')
+
+
 # The file.
 
 @mutant
@@ -2223,15 +2870,23 @@ class LargePointerPasses(Device):
 
 
 @mutant
-class BusStateEightPasses(Device):
+class BusStateTwelvePasses(Device):
     def bus_broken(self, bus):
-        return bus > 8
+        return bus > 12
 
 
 @mutant
-class BusStateSevenFails(Device):
+class BusStateElevenFails(Device):
     def bus_broken(self, bus):
-        return bus > 6
+        return bus > 10
+
+
+@mutant
+class BusStateEightFails(Device):
+    """The states of a device without a number."""
+
+    def bus_broken(self, bus):
+        return bus > 7
 
 
 @mutant
@@ -2295,15 +2950,15 @@ class HeldWithoutLatchFails(Device):
 @mutant
 class MakeAcceptsAnyChoice(Device):
     @classmethod
-    def make_too_large(cls, which, choice, levels):
-        return levels >= PARTS[which].limit
+    def make_too_large(cls, which, choice, levels, number):
+        return super().make_too_large(which, 0, levels, number)
 
 
 @mutant
 class MakeRefusesChoiceThree(Device):
     @classmethod
-    def make_too_large(cls, which, choice, levels):
-        return choice > 2 or levels >= PARTS[which].limit
+    def make_too_large(cls, which, choice, levels, number):
+        return choice > 2 or super().make_too_large(which, choice, levels, number)
 
 
 def pin_set_mutant(name):
@@ -2671,6 +3326,17 @@ class BurstLeavesMode(Device):
         return told
 
 
+@mutant
+class BurstLeavesPlace(Device):
+    """The number's bytes are told in turn, but the place after a burst is that before it."""
+
+    def burst(self, data, asked, room):
+        before = self.place
+        told = super().burst(data, asked, room)
+        self.place = before
+        return told
+
+
 # What the programs read: mutants of a log's session.
 
 READERS = []
@@ -2823,6 +3489,42 @@ class UnreadableDeviceTakesDigits(Session):
                 return None
             digits = PARTS[self.device.which].digits
         return super().event(kind, argument, digits)
+
+
+@reader
+class DevicesHaveANumber(Session):
+    def make(self, which, choice, levels):
+        return self.classes[which].make(which, choice, levels, 1)
+
+
+@reader
+class LaterDevicesHaveANumber(Session):
+    """The devices of a log are counted."""
+
+    def make(self, which, choice, levels):
+        return self.classes[which].make(which, choice, levels, 0 if self.device is None else self.device.number + 1)
+
+
+# What the line programs read: mutants of how a line of probe is read.
+
+LINE_READERS = []
+POWER_ON_FIELDS = image_fields(power_on_image(24)).encode().split(b'\t')
+
+
+def older_form(name, known):
+    """A reader that takes images of so many fields too, the others as at power-on."""
+    def read_line(line):
+        fields = line.split(b'\t')
+        if len(fields) == known + len(WIDTHS) - len(IMAGE_WIDTHS):
+            fields[known:known] = POWER_ON_FIELDS[known:]
+        return probe_line(b'\t'.join(fields))
+    read_line.__name__ = name
+    LINE_READERS.append(read_line)
+
+
+older_form('NumberAndPlaceLeftOut', 11)
+older_form('ModeLeftOut', 10)
+older_form('StatusAndLineLeftOut', 8)
 
 
 # What the planner refuses, and how long a plan may be.

@@ -6,8 +6,8 @@ import sys
 from device import Device, Image
 from trace import UNREADABLE, answer_line, split_lines
 
-# Registers, level, reference, held, edge, pointer, bus state, address choice, status, line, mode.
-IMAGE_WIDTHS = (256, 16, 16, 16, 16, 2, 2, 2, 16, 2, 2)
+# Registers, level, reference, held, edge, pointer, bus state, address choice, status, line, mode, number, place.
+IMAGE_WIDTHS = (256, 16, 16, 16, 16, 2, 2, 2, 16, 2, 2, 8, 2)
 # An image, kind, argument.
 WIDTHS = IMAGE_WIDTHS + (8, 16)
 
@@ -36,7 +36,7 @@ def read_line(line):
 
 
 def image_fields(image):
-    """The eleven fields of an image as text."""
+    """The thirteen fields of an image as text."""
     numbers = ['%0*x' % (width, number) for width, number in zip(IMAGE_WIDTHS[1:], image[1:])]
     return '\t'.join([bytes(image.registers).hex()] + numbers)
 

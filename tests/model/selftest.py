@@ -11,8 +11,8 @@ import judge
 import probe
 import trace
 import views
-from device import (ARMED, ASSERTED, BYTE, CALL, DEAF, FETCH, FILLING, IDLE, IN_GROUP, LEVELS, OPENED, OVER_MAP, PARTS,
-                    QUIET, RESET, SENDING, START, STOP, Device, kept_image, pin_set)
+from device import (ARMED, ASKING, ASSERTED, BYTE, CALL, CHOSEN, DEAF, FETCH, FILLING, IDLE, IN_GROUP, LEVELS, NAMED, OPENED,
+                    OVER_MAP, PARTS, QUIET, REOPENED, RESET, SENDING, START, STOP, TELLING, Device, kept_image, pin_set)
 
 EXAMPLES = Path(__file__).resolve().parents[2] / 'examples'
 
@@ -304,6 +304,223 @@ def test_resets_clear_the_mode():
         assert (bench.device.pointer, bench.device.mode) == (0x04, OVER_MAP)
 
 
+# The Device ID.
+
+GO, HALT, ON, LAST = (START, 0), (STOP, 0), (FETCH, 1), (FETCH, 0)
+ASKED, TOLD, OWN = (BYTE, 0xF8), (BYTE, 0xF9), (BYTE, 0x40)
+
+
+def answered(device, *events):
+    return [device.step(*event) for event in events]
+
+
+def telling(which):
+    """A device whose number is 123456h, about to tell it."""
+    device = Device.make(which, 0, 0, 0x123456)
+    assert answered(device, GO, ASKED, OWN, GO, TOLD) == ['-', 'ack', 'ack', '-', 'ack']
+    return device
+
+
+def test_device_id():
+    """The highest byte first, round again after the lowest, until a fetch that is not acknowledged; by either lowest bit."""
+    for which, choice, lowest in ((which, choice, lowest) for which in PARTS for choice in range(4) for lowest in (0, 1)):
+        device, own = Device.make(which, choice, 0, 0x123456), (BYTE, 0x40 + 2 * choice + lowest)
+        for _ in range(2):
+            states = []
+            for event in (GO, ASKED, own, GO, TOLD):
+                assert device.step(*event) == ('-' if event is GO else 'ack')
+                states.append(device.bus)
+            assert states == [OPENED, ASKING, NAMED, REOPENED, TELLING] and device.place == 0
+            assert answered(device, ON, ON, ON, ON) == [0x12, 0x34, 0x56, 0x12] and device.bus == TELLING
+            # The last one does not step, and what is fetched after it is nobody's.
+            assert answered(device, LAST, ON, LAST) == [0x34, 0xFF, 0xFF] and (device.bus, device.place) == (DEAF, 1)
+    for number, told in ((0x000000, [0x00, 0x00, 0x00]), (0xFFFFFF, [0xFF, 0xFF, 0xFF]), (0x0000A5, [0x00, 0x00, 0xA5]),
+                         (0xA50000, [0xA5, 0x00, 0x00])):
+        assert answered(Device.make(34, 0, 0, number), GO, ASKED, OWN, GO, TOLD, ON, ON, LAST)[5:] == told
+
+
+def test_device_id_spoiled():
+    """One step is wrong: the answers from that step on, and where the bus is then."""
+    other, read = (BYTE, 0x42), (BYTE, 0x41)
+    for events, answers, bus in (
+            # STOP, whether START follows or not.
+            ((GO, ASKED, OWN, HALT, GO, TOLD, ON), ['-', '-', 'nak', 0xFF], DEAF),
+            ((GO, ASKED, OWN, HALT, TOLD), ['-', 'nak'], IDLE),
+            ((GO, ASKED, HALT, OWN, GO, TOLD), ['-', 'nak', '-', 'nak'], DEAF),
+            ((GO, ASKED, OWN, GO, HALT, TOLD, ON), ['-', 'nak', 0xFF], IDLE),
+            # No repeated START, or one too early.
+            ((GO, ASKED, OWN, TOLD, ON, GO, TOLD), ['nak', 0xFF, '-', 'nak'], DEAF),
+            ((GO, ASKED, GO, TOLD), ['-', 'nak'], DEAF),
+            ((GO, ASKED, GO, OWN), ['-', 'ack'], CHOSEN),
+            # Another device, all of them, or none is named.
+            ((GO, ASKED, other, GO, TOLD), ['nak', '-', 'nak'], DEAF),
+            ((GO, ASKED, (BYTE, 0x00), (BYTE, 0x06), HALT), ['nak', 'nak', '-'], IDLE),
+            ((GO, ASKED, TOLD, OWN, GO, TOLD), ['nak', 'nak', '-', 'nak'], DEAF),
+            ((GO, ASKED, ASKED, OWN, GO, TOLD), ['nak', 'nak', '-', 'nak'], DEAF),
+            # F9h first, or nothing before it.
+            ((GO, TOLD, OWN, GO, TOLD), ['nak', 'nak', '-', 'nak'], DEAF),
+            ((GO, OWN, GO, TOLD), ['ack', '-', 'nak'], DEAF),
+            # Named, and then a byte more.
+            ((GO, ASKED, OWN, OWN, GO, TOLD), ['nak', '-', 'nak'], DEAF),
+            ((GO, ASKED, OWN, ASKED, OWN, GO, TOLD), ['nak', 'nak', '-', 'nak'], DEAF),
+            # Another address after the repeated START.
+            ((GO, ASKED, OWN, GO, other, TOLD, GO, TOLD), ['nak', 'nak', '-', 'nak'], DEAF),
+            ((GO, ASKED, OWN, GO, read, GO, TOLD), ['ack', '-', 'nak'], DEAF),
+            # A byte, START or STOP while the number is told.
+            ((GO, ASKED, OWN, GO, TOLD, ON, TOLD, ON), [0x12, 'nak', 0xFF], DEAF),
+            ((GO, ASKED, OWN, GO, TOLD, ON, GO, ON, TOLD), [0x12, '-', 0xFF, 'nak'], DEAF),
+            ((GO, ASKED, OWN, GO, TOLD, ON, HALT, ON), [0x12, '-', 0xFF], IDLE),
+            # A reset at each place.
+            *(((GO, ASKED, OWN, GO)[:n] + ((RESET, 0), TOLD, ON), ['-', 'nak', 0xFF], IDLE) for n in range(5)),
+            ((GO, ASKED, OWN, GO, TOLD, ON, (RESET, 0), ON), [0x12, '-', 0xFF], IDLE)):
+        for which in PARTS:
+            device = Device.make(which, 0, 0, 0x123456)
+            assert answered(device, *events)[-len(answers):] == answers, events
+            assert device.bus == bus, events
+            # The next one, done right, is told all of it.
+            assert answered(device, GO, ASKED, OWN, GO, TOLD, ON, LAST)[4:] == ['ack', 0x12, 0x34], events
+
+
+def test_device_id_goes_on():
+    """What spoils nothing: a second START, F8h and the name again, levels, and fetches that nobody answers."""
+    for which in PARTS:
+        for events in ((GO, ASKED, OWN, GO, GO, GO), (GO, GO, ASKED, OWN, GO), (GO, ASKED, OWN, GO, ASKED, OWN, GO),
+                       (GO, (LEVELS, 1), ASKED, (LEVELS, 0), OWN, (LEVELS, 3), GO, (LEVELS, 0)),
+                       (GO, ON, ASKED, ON, OWN, LAST, GO, LAST)):
+            device = Device.make(which, 0, 0, 0x123456)
+            answers = answered(device, *events)
+            assert 'nak' not in answers and set(answers) <= {'-', 'ack', 0xFF}, events
+            assert answered(device, TOLD, ON, (LEVELS, 2), ON, LAST) == ['ack', 0x12, '-', 0x34, 0x56], events
+        # F8h after the repeated START asks anew: only the name and one more START lead on.
+        device = Device.make(which, 0, 0, 0x123456)
+        assert answered(device, GO, ASKED, OWN, GO, ASKED)[4] == 'ack' and device.bus == ASKING
+        assert answered(device, GO, TOLD) == ['-', 'nak']
+
+
+def test_after_the_repeated_start():
+    """Addresses and the general call are as ever."""
+    for which, part in PARTS.items():
+        bench = Bench(which)
+        answered(bench.device, GO, ASKED, OWN, GO)
+        assert answered(bench.device, OWN, (BYTE, part.output), (BYTE, 0x12)) == ['ack'] * 3
+        answered(bench.device, (STOP, 0), GO, ASKED, OWN)
+        bench.point(part.output)
+        answered(bench.device, GO, ASKED, OWN)
+        bench.address(1)
+        assert answered(bench.device, LAST) == [0x12]
+        answered(bench.device, GO, ASKED, OWN, GO, (BYTE, 0x00), (BYTE, 0x06), HALT)
+        assert bench.device.registers[part.output] == 0xFF
+
+
+# What a byte gets and where it leads; every other byte gets no acknowledge and deafens.
+BYTES_HEARD = {
+    OPENED: {0x40: CHOSEN, 0x41: SENDING, 0x00: CALL, 0xF8: ASKING},
+    ASKING: {0x40: NAMED, 0x41: NAMED},
+    NAMED: {},
+    REOPENED: {0x40: CHOSEN, 0x41: SENDING, 0x00: CALL, 0xF8: ASKING, 0xF9: TELLING},
+    TELLING: {},
+}
+
+
+def test_every_byte_of_the_device_id():
+    """All bytes in all of its states at all addresses; of the rest of the state only F9h that is heard sets the place."""
+    for which, choice in ((which, choice) for which in PARTS for choice in range(4)):
+        device = Device.make(which, choice, 0, 0x123456)
+        device.pointer, device.mode = PARTS[which].latch, OVER_MAP
+        before = device.image()
+        for bus, heard in BYTES_HEARD.items():
+            for value in range(256):
+                device.bus, device.place = bus, 2
+                answer, after = device.step(BYTE, value), heard.get(value - 2 * choice if 0x40 <= value < 0x48 else value)
+                assert answer == ('nak' if after is None else 'ack'), (bus, value)
+                assert (device.bus, device.place) == (DEAF if after is None else after, 0 if after == TELLING else 2)
+        assert device.image()._replace(bus=IDLE, place=0) == before
+
+
+def test_every_other_event_of_the_device_id():
+    """In each of the twelve states."""
+    for which in PARTS:
+        sound = Device.make(which, 0, 5, 0x123456).image()._replace(pointer=PARTS[which].latch, mode=OVER_MAP, place=1)
+        for bus in range(12):
+            image = sound._replace(bus=bus)
+            for event, wanted in (((START, 0), image._replace(bus=REOPENED if bus in (NAMED, REOPENED) else OPENED)),
+                                  ((LEVELS, 5), image),
+                                  ((RESET, 0), image._replace(bus=IDLE, pointer=0x00, mode=IN_GROUP, place=0)),
+                                  ((STOP, 0), image._replace(bus=IDLE))):
+                device = Device(which, image)
+                # Armed, STOP resets as ever.
+                if (event, bus) == ((STOP, 0), ARMED):
+                    wanted = sound._replace(bus=IDLE, pointer=0x00, mode=IN_GROUP, place=0)
+                assert device.step(*event) == '-' and device.image() == wanted, (event, bus)
+            for acknowledged in (0, 1):
+                device = Device(which, image)
+                told = device.step(FETCH, acknowledged)
+                if bus == TELLING:
+                    after = image._replace(place=2) if acknowledged else image._replace(bus=DEAF)
+                    assert (told, device.image()) == (0x34, after)
+                elif bus != SENDING:
+                    assert (told, device.image()) == (0xFF, image), bus
+
+
+def test_f9_elsewhere():
+    """Reserved as a command, taken as data, unheard where nobody listens, and what ends a call or a read."""
+    for which, part in PARTS.items():
+        sound = Device.make(which, 0, 0, 0x123456).image()._replace(pointer=part.output, place=2)
+        for bus, answer, after in ((IDLE, 'nak', IDLE), (DEAF, 'nak', DEAF), (CHOSEN, 'nak', DEAF), (CALL, 'nak', DEAF),
+                                   (ARMED, 'nak', DEAF), (SENDING, 'nak', DEAF)):
+            device = Device(which, sound._replace(bus=bus))
+            assert device.step(*TOLD) == answer and device.image() == sound._replace(bus=after), bus
+        device = Device(which, sound._replace(bus=FILLING))
+        assert device.step(*TOLD) == 'ack' and device.registers[part.output] == 0xF9 and device.place == 2
+
+
+def test_the_device_id_leaves_the_rest():
+    """Pointer, mode, registers, marks and INT are as before, and the next transaction goes on from there."""
+    for which, part in PARTS.items():
+        for mode, second in ((IN_GROUP, 0xFF), (OVER_MAP, 0x00)):
+            bench = rung(which)
+            # The last of the outputs: after it comes the first of them, or that of the polarities.
+            bench.point(part.named['output'].last, mode)
+            bench.device.step(BYTE, 0x01)
+            bench.point(part.named['output'].last, mode)
+            before = bench.device.image()
+            assert answered(bench.device, GO, ASKED, OWN, GO, TOLD, ON, ON, ON, ON, LAST)[5:] == [0x00] * 5
+            assert bench.device.image() == before._replace(bus=DEAF, place=1) and not bench.quiet()
+            bench.address(1)
+            assert answered(bench.device, ON, ON) == [0x01, second]
+            # At an input port, pins that ring are not settled by it.
+            bench.point(0x00)
+            answered(bench.device, HALT, GO, ASKED, OWN, GO, TOLD, ON, LAST)
+            assert bench.device.image().status == part.limit - 1
+            bench.write(0x04, 0x5A)
+            assert bench.read(0x04) == 0x5A
+
+
+def test_resets_keep_the_number():
+    """And take the place back to 0, in the middle of the number and elsewhere."""
+    software = (GO, (BYTE, 0x00), (BYTE, 0x06), HALT)
+    for which in PARTS:
+        assert Device.make(which, 0, 0, 0x123456).image()[-2:] == (0x123456, 0)
+        for events in (((RESET, 0),), (HALT, (RESET, 7)), software, (LAST,) + software):
+            device = telling(which)
+            assert answered(device, ON, ON) == [0x12, 0x34] and device.place == 2
+            answered(device, *events)
+            assert (device.number, device.place, device.bus) == (0x123456, 0, IDLE), events
+            assert answered(device, GO, ASKED, OWN, GO, TOLD, ON, ON, LAST)[5:] == [0x12, 0x34, 0x56]
+        # Without a reset the place is left where it is, until F9h is heard again.
+        device = telling(which)
+        answered(device, ON, ON, HALT, GO, OWN, (BYTE, 0x00), (LEVELS, 1), GO, (BYTE, 0x41), ON, HALT, GO, ASKED, OWN, GO)
+        assert device.place == 2
+        assert answered(device, TOLD, LAST) == ['ack', 0x12]
+
+
+def test_devices_of_a_log_have_number_0():
+    log = '%s\nstart\nbyte\tf8\nbyte\t45\nstart\nbyte\tf9\nfetch\t1\nfetch\t1\nfetch\t1\nfetch\t0\nfetch\t1\n'
+    for line in ('device\t2\t000000', 'device34\t2\t000000000'):
+        told = [answer.split(b'\t')[0] for answer in trace.run_log((log % line).encode()).split(b'\n')[1:-1]]
+        assert told == [b'-', b'-', b'ack', b'ack', b'-', b'ack', b'00', b'00', b'00', b'00', b'ff']
+
+
 def rung(which):
     """Every pin unmasked and away from its reference."""
     bench = Bench(which)
@@ -489,7 +706,7 @@ def test_addresses_and_commands():
         for value in range(256):
             device.step(START, 0)
             assert device.bus == OPENED
-            mine = value in (0x40 + 2 * choice, 0x41 + 2 * choice, 0x00)
+            mine = value in (0x40 + 2 * choice, 0x41 + 2 * choice, 0x00, 0xF8)
             assert device.step(BYTE, value) == ('ack' if mine else 'nak')
     for which, count, last in ((24, 52, 0x76), (34, 82, 0x6F)):
         bench = Bench(which)
@@ -625,6 +842,9 @@ def test_limits():
         assert Device.make(which, 0, largest).image().level == largest
         assert Device.make(which, 0, largest + 1) == ('refused', 2)
         assert Device.make(which, 4, 0) == ('refused', 2)
+        assert Device.make(which, 3, largest, 0xFFFFFF).image().number == 0xFFFFFF
+        for arguments in ((0, 0, 0x1000000), (0, 0, 1 << 31), (4, 0, 0x1000000), (0, largest + 1, 0xFFFFFFFF)):
+            assert Device.make(which, *arguments) == ('refused', 2)
         device = Device.make(which, 0, 0)
         before = device.image()
         for kind, arg, number in ((6, 0, 1), (1 << 31, 1 << 40, 1), (BYTE, 256, 2), (FETCH, 2, 2),
@@ -657,12 +877,14 @@ def broken_images(which, sound):
     """An image broken in every way, and in no other at the same time."""
     limit = PARTS[which].limit
     return (*(sound._replace(pointer=pointer) for pointer in WRONG_POINTERS[which]),
-            sound._replace(bus=8), sound._replace(choice=4),
+            *(sound._replace(bus=bus) for bus in (12, 13, 0x80, 0xFF)), sound._replace(choice=4),
             *(kept_image(which, sound._replace(**{name: limit})) for name in ('level', 'reference', 'held', 'edge')),
             *(kept_image(which, with_entry(sound, *entry)) for entry in WRONG_ENTRIES[which]),
             *(sound._replace(status=sound.status ^ 1 << i) for i in range(64)),
             sound._replace(line=1 - sound.line), *(sound._replace(line=line) for line in (2, 3, 0x80, 0xFF)),
-            *(sound._replace(mode=mode) for mode in (2, 3, 0x80, 0x81, 0xFF)))
+            *(sound._replace(mode=mode) for mode in (2, 3, 0x80, 0x81, 0xFF)),
+            *(sound._replace(number=number) for number in (0x1000000, 0x1000001, 0x80000000, 0xFFFFFFFF)),
+            *(sound._replace(place=place) for place in (3, 4, 0x80, 0xFF)))
 
 
 def test_broken_images():
@@ -671,8 +893,8 @@ def test_broken_images():
         for image in broken_images(which, sound):
             for kind, arg in ((START, 0), (6, 0), (BYTE, 256)):
                 assert Device(which, image).step(kind, arg) == ('refused', 3), (which, image)
-        for image in (sound, sound._replace(bus=7), sound._replace(choice=3), sound._replace(edge=part.limit - 1),
-                      sound._replace(mode=OVER_MAP),
+        for image in (sound, sound._replace(bus=11), sound._replace(choice=3), sound._replace(edge=part.limit - 1),
+                      sound._replace(mode=OVER_MAP), sound._replace(number=0xFFFFFF), sound._replace(place=2),
                       sound._replace(pointer=max(generate.KNOWN[which])),
                       *(with_entry(sound, *entry) for entry in RIGHT_ENTRIES[which])):
             assert Device(which, image).step(START, 0) == '-', (which, image)
@@ -790,7 +1012,7 @@ def test_views_reader():
         sound = Device.make(which, 2, 5).image()
         for image, number, answer in (
                 (sound, 0x00, b'05\t1' + drives), (sound, 0x39, b'refused\t2\t1' + drives),
-                (sound._replace(bus=8), 0x00, b'refused\t3\trefused\t3\trefused\t3\n')):
+                (sound._replace(bus=12), 0x00, b'refused\t3\trefused\t3\trefused\t3\n')):
             line = ('%s\t%08x' % (probe.image_fields(image), number)).encode()
             assert views.run_lines(which, line) == views.run_lines(which, line + b'\n') == answer
         for _ in range(100):
@@ -833,6 +1055,16 @@ def test_bursts():
                 assert one.image() == single.image()
 
 
+def test_device_id_in_a_burst():
+    """Cut anywhere, it is what single events make of it."""
+    events = (GO, ASKED, OWN, GO, TOLD, ON, ON, ON, ON, ON, LAST, ON)
+    answers = ['-', 'ack', 'ack', '-', 'ack', 0x12, 0x34, 0x56, 0x12, 0x34, 0x56, 0xFF]
+    for which, asked in ((which, asked) for which in PARTS for asked in range(len(events) + 1)):
+        one, single = (Device.make(which, 0, 0, 0x123456) for _ in range(2))
+        assert one.burst(events_of(*events), asked, 24) == (0, asked, answers[:asked])
+        assert answered(single, *events[:asked]) == answers[:asked] and one.image() == single.image()
+
+
 def test_upper_half():
     for event in IGNORED:
         assert Device.make(34, 2, 0).burst(events_of(event), 1, 2) == (0, 1, ['-']), event
@@ -847,7 +1079,7 @@ def test_bursts_of_eight():
     starts = events_of((START,)) * 514
     for which in PARTS:
         sound = Device.make(which, 2, 0).image()
-        for image, passed in ((sound, 0), (sound._replace(bus=8), 3)):
+        for image, passed in ((sound, 0), (sound._replace(bus=12), 3)):
             for given, asked, room in ((12, 2, 99), (0, 1, 99), (11, 0, 99), (13, 1, 99), (13, 0, 99), (12, 1, 1),
                                        (12, 1, 0), (514 * 12, 513, 9999), (514 * 12, 512, 1023), (514 * 12, 1 << 63, 0)):
                 device = Device(which, image)
@@ -880,19 +1112,26 @@ def test_bursts_reader():
 def test_probe_reader():
     rng = random.Random(1)
     for which, drives in ((24, '000000\t000000'), (34, '000000000\t000000000')):
-        line = (probe.image_fields(Device.make(which, 2, 5).image()) + '\t00000000\t0000000000000000').encode()
-        after = Device.make(which, 2, 5)
+        line = (probe.image_fields(Device.make(which, 2, 5, 0x123456).image()) + '\t00000000\t0000000000000000').encode()
+        after = Device.make(which, 2, 5, 0x123456)
         after.step(START, 0)
         answer = ('-\t1\t%s\t%s' % (drives, probe.image_fields(after.image()))).encode() + b'\n'
         assert probe.run_lines(which, line) == probe.run_lines(which, line + b'\n') == answer
         assert probe.run_lines(which, b'') == b''
         fields = line.split(b'\t')
-        assert len(line) == 382 and len(fields) == 13 and fields[8:11] == [b'0' * 16, b'01', b'00']
-        # There is one form: an image without the mode is none, nor one without status and line too.
-        for older in (8, 10):
-            assert probe.run_lines(which, b'\t'.join(fields[:older] + fields[11:])) == b'refused\t7\n'
-        for mode, told in ((b'01', answer[:-3] + b'01\n'), (b'02', b'refused\t3\n'), (b'ff', b'refused\t3\n')):
-            assert probe.run_lines(which, b'\t'.join(fields[:10] + [mode] + fields[11:])) == told
+        assert len(line) == 394 and len(fields) == 15
+        assert fields[8:13] == [b'0' * 16, b'01', b'00', b'00123456', b'00'] and answer.endswith(b'\t00\t00123456\t00\n')
+        # There is one form: an image without number and place is none, nor one without the mode too, nor status and line.
+        for older in (8, 10, 11):
+            assert probe.run_lines(which, b'\t'.join(fields[:older] + fields[13:])) == b'refused\t7\n'
+        # Each of the last three, taken and told, then at and past its limit.
+        for at, largest, refused in ((10, b'01', (b'02', b'ff')), (11, b'00ffffff', (b'01000000', b'80000000')),
+                                     (12, b'02', (b'03', b'ff'))):
+            told = answer.split(b'\t')
+            told[at + 4] = largest + b'\n' * (at == 12)
+            assert probe.run_lines(which, b'\t'.join(fields[:at] + [largest] + fields[at + 1:])) == b'\t'.join(told)
+            for value in refused:
+                assert probe.run_lines(which, b'\t'.join(fields[:at] + [value] + fields[at + 1:])) == b'refused\t3\n'
         for _ in range(200):
             assert probe.run_lines(which, generate.spoiled_line(rng, line) + b'\n') == b'refused\t7\n'
         # One part's image at power-on is broken for the other.
@@ -1156,7 +1395,8 @@ def faults_of(which, image):
         ('unused', any(device.unused_broken(n, image.registers[n]) for n in range(128))),
         ('entry', any(device.entry_broken(n, image.registers[n]) for n in range(128))),
         ('status', device.status_broken(image.status)), ('line', device.line_broken(image.line)),
-        ('mode', device.mode_broken(image.mode))) if broken)
+        ('mode', device.mode_broken(image.mode)), ('number', device.number_broken(image.number)),
+        ('place', device.place_broken(image.place))) if broken)
 
 
 def test_broken_images_have_one_fault():
@@ -1173,7 +1413,7 @@ def test_broken_images_have_one_fault():
             unused |= {n for n in generate.PARTLY_STORED[which] if device.unused_broken(n, broken.registers[n])}
         assert found == {frozenset(names) for names in (
             ['pointer'], ['bus'], ['choice'], ['pin sets'], ['unused'], ['entry'], ['status'], ['line'],
-            ['status', 'line'], ['mode'])}
+            ['status', 'line'], ['mode'], ['number'], ['place'])}
         assert len(unused) > len(generate.PARTLY_STORED[which]) // 2
 
 

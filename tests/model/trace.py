@@ -64,8 +64,9 @@ def answer_line(answer, device, digits=None):
     return '%s\t%d\t%0*x\t%0*x' % (show(answer), line, digits, low, digits, high)
 
 
-# The class of each part's devices.
+# The class of each part's devices, and the number that all of them have.
 MODEL = {which: Device for which in PARTS}
+NUMBER = 0
 
 
 class Session:
@@ -95,11 +96,15 @@ class Session:
 
     def new(self, which, choice, levels, digits):
         """A device line; unreadable, as with a choice over 3, it leaves the old device."""
-        made = self.classes[which].make(which, choice, levels) if self.levels_read(which, levels, digits) else None
+        made = self.make(which, choice, levels) if self.levels_read(which, levels, digits) else None
         if made is None or isinstance(made, tuple):
             return None
         self.device = made
         return '-'
+
+    def make(self, which, choice, levels):
+        """No line says a number."""
+        return self.classes[which].make(which, choice, levels, NUMBER)
 
     def event(self, kind, argument, digits):
         """An event line; before a device, or with levels that its part has not, it is unreadable."""

@@ -2,7 +2,8 @@
 
 A mutant of the device is tried on each part by itself, on cases of that part. One that only images can show is tried on
 images alone, one that only views or only bursts can show on those alone, unless --all has the logs, for views and bursts
-the images too, run through it. Mutants of a log's reader are tried on logs of both parts, those of the planner on plans.
+the images too, run through it. Mutants of a log's reader are tried on logs of both parts, those of an image line's reader
+on such lines of each, those of the planner on plans.
 """
 
 import random
@@ -15,11 +16,11 @@ import probe
 import views
 from device import PARTS, Device
 from judge import Planner
-from mutants import MUTANTS, ONLY_BY_BURSTS, ONLY_BY_IMAGES, ONLY_BY_VIEWS, PLANNERS, READERS, SURVIVORS
+from mutants import LINE_READERS, MUTANTS, ONLY_BY_BURSTS, ONLY_BY_IMAGES, ONLY_BY_VIEWS, PLANNERS, READERS, SURVIVORS
 from trace import MODEL, Session, answers, read_log
 
 # Of each part.
-TRACES = 300
+TRACES = 340
 FURTHER_TRACES = 750
 IMAGE_LINES = 6000
 VIEW_LINES = 3000
@@ -75,6 +76,12 @@ def line_cases(rng, which, count, line, module):
     return Cases(map(module.read_line, lines), lambda read, cls: [module.answer_to(which, read, cls)], Device)
 
 
+def line_reader_cases(rng, which, count):
+    """Image lines, each with what is read of it."""
+    lines = (generate.image_line(rng, which)[:-1] for _ in range(count))
+    return Cases(lines, lambda line, read: [read(line)], probe.read_line)
+
+
 def plan_case(rng, which):
     """(start, goal, room, answer): what is refused, and whether the answer passes."""
     if rng.random() < 0.1:
@@ -104,6 +111,7 @@ class Corpus:
             for name, count, line, module in (('images', IMAGE_LINES, generate.image_line, probe),
                                               ('views', VIEW_LINES, generate.view_line, views),
                                               ('bursts', BURST_LINES, generate.burst_line, bursts)))
+        self.lines = line_reader_cases(random.Random('lines %d pins %d' % (which, seed)), which, IMAGE_LINES)
         self.plans = plan_cases(random.Random('plans %d pins %d' % (which, seed)), which, PLANS)
 
     def further_logs(self):
@@ -115,7 +123,7 @@ class Verdicts:
 
     def __init__(self, everything):
         self.everything = everything
-        self.by = {place: [] for place in ('traces', 'images', 'views', 'bursts', 'readers', 'plans')}
+        self.by = {place: [] for place in ('traces', 'images', 'views', 'bursts', 'readers', 'lines', 'plans')}
         self.alive, self.wrong = [], []
 
     def put(self, place, name, told):
@@ -135,7 +143,7 @@ class Verdicts:
         self.put('traces' if traced else 'images', name, traced or imaged)
         if by_image and not imaged:
             self.wrong.append('%s: no image tells it' % name)
-        # One log in sixty tells the rarest of the others, so that one seed in a hundred asks for more logs than these.
+        # One log in a hundred tells the rarest of the others, so that one seed in six asks for more logs than these.
         if imaged and not by_image and not corpus.further_logs().tell(cls):
             self.wrong.append('%s: no log tells it' % name)
 
@@ -146,7 +154,7 @@ def main(seed, everything):
     assert ONLY_BY_IMAGES | ONLY_BY_VIEWS | ONLY_BY_BURSTS | set(SURVIVORS) <= set(names)
     trials = [(cls.__name__, which) for cls in MUTANTS + PLANNERS for which in cls.on]
     assert len(set(trials)) == len(trials)
-    verdicts, count = Verdicts(everything), len(trials) + len(READERS)
+    verdicts, count = Verdicts(everything), len(trials) + len(READERS) + len(LINE_READERS) * len(PARTS)
     for which in PARTS:
         corpus = Corpus(seed, which)
         for cls in MUTANTS:
@@ -155,14 +163,16 @@ def main(seed, everything):
         for cls in PLANNERS:
             if which in cls.on:
                 verdicts.put('plans', '%s of %d' % (cls.__name__, which), corpus.plans.tell(cls))
+        for read in LINE_READERS:
+            verdicts.put('lines', '%s of %d' % (read.__name__, which), corpus.lines.tell(read))
     logs = reader_cases(random.Random('readers %d' % seed), READER_TRACES)
     for cls in READERS:
         verdicts.put('readers', cls.__name__, logs.tell(cls))
     by = verdicts.by
-    print('seed %d: %d mutants, %d caught by traces, %d of readers by traces, only by images %d, by views %d, by bursts %d, '
-          'by plans %d, %d survive, %.1f s' % (
-              seed, count, len(by['traces']), len(by['readers']), len(by['images']), len(by['views']), len(by['bursts']),
-              len(by['plans']), len(verdicts.alive), time.monotonic() - began))
+    print('seed %d: %d mutants, %d caught by traces, %d of readers by traces, %d by lines, only by images %d, by views %d, '
+          'by bursts %d, by plans %d, %d survive, %.1f s' % (
+              seed, count, len(by['traces']), len(by['readers']), len(by['lines']), len(by['images']), len(by['views']),
+              len(by['bursts']), len(by['plans']), len(verdicts.alive), time.monotonic() - began))
     for name in verdicts.alive:
         print('survives: %s: %s' % (name, SURVIVORS.get(name, 'not expected')))
     for line in verdicts.wrong:

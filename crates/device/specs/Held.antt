@@ -6,7 +6,7 @@ use lib.Dec.{ltb}
 use Rattle.map.specs.Map.{partOf}
 use Rattle.registers.specs.Registers.{core}
 use Rattle.registers.specs.Interrupt.{interrupt}
-use Rattle.device_rules.specs.Device.{State, Outcome, state, out}
+use Rattle.device_rules.specs.Device.{State, Outcome, identity, state, out}
 use Rattle.device_rules.specs.Refusals.{imageFits, stepped}
 use Rattle.device_rules.specs.PowerOn.{MadeOf}
 use Rattle.device_rules.specs.declared.Answer.the-variants.{Refused}
@@ -16,7 +16,7 @@ use Rattle.device.specs.declared.Stepped.{Stepped}
 
 -- the state that a device's fields hold: all of it but the part
 abbrev pub stateIn : Device → State
-stateIn d = state (core (d .file) (d .sets)) (interrupt (d .status) (d .line)) (d .pointer) (d .mode) (d .bus) (d .choice)
+stateIn d = state (core (d .file) (d .sets)) (interrupt (d .status) (d .line)) (d .pointer) (d .mode) (d .bus) (d .choice) (identity (d .number) (d .place))
 
 -- whether the device is one of the two parts, and its state an image of that part that may stand; else it is a broken image: 3
 abbrev pub fitsIn : Device → Bool
@@ -32,6 +32,6 @@ pub record Steps (d : Device) (kind arg : ℕ) (s : Stepped) : Type 0 where
   pub part-stays : s .device .part ≡ d .part
 
 -- a device that is made: of that part, and as the rules have it
-pub record Makes (part choice levels : ℕ) (m : Made) : Type 0 where
-  pub as-ruled : MadeOf (partOf part) choice levels (m .refusal) (stateIn (m .device))
+pub record Makes (part choice levels id : ℕ) (m : Made) : Type 0 where
+  pub as-ruled : MadeOf (partOf part) choice levels id (m .refusal) (stateIn (m .device))
   pub part-is : m .device .part ≡ part

@@ -10,6 +10,7 @@ use device_rules::Answer;
 use device_rules::BAD_ARGUMENT;
 use device_rules::BAD_IMAGE;
 use device_rules::LAST_CHOICE;
+use device_rules::LAST_ID;
 use device_rules::NONE;
 use device_rules::QUIET;
 use map::LAST_NUMBER;
@@ -20,7 +21,7 @@ pub const PART24: u8 = 0;
 
 pub const PART34: u8 = 1;
 
-// The device: its part's number, and its state: one byte for each command number beside the pin sets, the pointer, the bus state, the address choice, the status set, the line and the pointer's mode.
+// The device: its part's number, and its state: one byte for each command number beside the pin sets, the pointer, the bus state, the address choice, the status set, the line, the pointer's mode, the Device ID's number and the place of its byte that is told next.
 pub struct Device {
     pub part: u8,
     pub file: [u8; 128],
@@ -31,6 +32,8 @@ pub struct Device {
     pub status: u64,
     pub line: u8,
     pub mode: u8,
+    pub number: u64,
+    pub place: u8,
 }
 
 // An answer, and the device after.
@@ -71,13 +74,16 @@ fn wide(byte: u8) -> u64
 }
 
 // What refuses to make a device of the part: its number, 0 for none.
-fn making_refusal(part: u8, choice: u8, levels: u64) -> u8
-    ensures { λ n. ⌜ n ≡ makingRefused (partOf part) choice levels ⌝ }
+fn making_refusal(part: u8, choice: u8, levels: u64, number: u64) -> u8
+    ensures { λ n. ⌜ n ≡ makingRefused (partOf part) choice levels number ⌝ }
 {
     if LAST_CHOICE < choice {
         return BAD_ARGUMENT;
     }
     if map::pins_of(part as u64) < levels {
+        return BAD_ARGUMENT;
+    }
+    if LAST_ID < number {
         return BAD_ARGUMENT;
     }
     NONE
@@ -110,7 +116,7 @@ impl Device {
         ensures { λ r. ⌜ r ≡ defaults (partOf part) ⌝ }
     {
         let mut words = [0u64; 28];
-        words_device::power_on(&mut words, part as u64, 0, 0);
+        words_device::power_on(&mut words, part as u64, 0, 0, 0);
         let mut file = [0u8; 128];
         words_images::to_file(&words, part as u64, &mut file);
         file
@@ -131,11 +137,11 @@ impl Device {
     }
 
     // A device of the part at power-on.
-    fn at_power_on(part: u8, choice: u8, levels: u64) -> Made
+    fn at_power_on(part: u8, choice: u8, levels: u64, number: u64) -> Made
         requires { ⌜ part < 2 ⌝ }
-        ensures { λ m. ⌜ Makes part choice levels m ⌝ }
+        ensures { λ m. ⌜ Makes part choice levels number m ⌝ }
     {
-        let refusal = making_refusal(part, choice, levels);
+        let refusal = making_refusal(part, choice, levels, number);
         let file = Self::file_at_reset(part);
         let sets = Sets {
             level: levels,
@@ -153,22 +159,24 @@ impl Device {
             status: 0,
             line: QUIET,
             mode: 0,
+            number,
+            place: 0,
         };
         Made { refusal, device }
     }
 
-    // A device at power-on, at this address choice and with these levels.
-    pub fn power_on(choice: u8, levels: u64) -> Made
-        ensures { λ m. ⌜ Makes 0 choice levels m ⌝ }
+    // A device at power-on, at this address choice, with these levels and this Device ID.
+    pub fn power_on(choice: u8, levels: u64, number: u64) -> Made
+        ensures { λ m. ⌜ Makes 0 choice levels number m ⌝ }
     {
-        Self::at_power_on(PART24, choice, levels)
+        Self::at_power_on(PART24, choice, levels, number)
     }
 
     // And its sister.
-    pub fn power_on34(choice: u8, levels: u64) -> Made
-        ensures { λ m. ⌜ Makes 1 choice levels m ⌝ }
+    pub fn power_on34(choice: u8, levels: u64, number: u64) -> Made
+        ensures { λ m. ⌜ Makes 1 choice levels number m ⌝ }
     {
-        Self::at_power_on(PART34, choice, levels)
+        Self::at_power_on(PART34, choice, levels, number)
     }
 
     // The words of the image, if it may stand: what refusal 3 asks.
@@ -182,6 +190,7 @@ impl Device {
         let choice = wide(self.choice);
         let line = wide(self.line);
         let mode = wide(self.mode);
+        let place = wide(self.place);
         words_images::pack(
             words,
             part,
@@ -193,6 +202,8 @@ impl Device {
             self.status,
             line,
             mode,
+            self.number,
+            place,
         )
     }
 
@@ -221,6 +232,8 @@ impl Device {
             status: after.status,
             line: after.line,
             mode: after.mode,
+            number: after.number,
+            place: after.place,
         };
         Stepped { answer, device }
     }

@@ -103,5 +103,5 @@ module _ (p : Part) (ok : Lawful p) where
       either-arm (λ (r : Ran). eqb (r .number) 3 ≡ false) (eqb (answerKind (one p s e .answer)) 4) (one-unbroken s g e) (ran-unbroken (one p s e .after) (one-keeps s g e) es)
 
   -- no burst from power-on is refused with 3
-  pub never-3 : (choice levels : ℕ) → choice < 4 → levels < 2 ^ p .width → (es : List Sent) → eqb (ran p (powerOn p choice levels) es .number) 3 ≡ false
-  never-3 choice levels hc hl = ran-unbroken (powerOn p choice levels) (power-on-fits p ok choice levels hc hl)
+  pub never-3 : (choice levels id : ℕ) → choice < 4 → levels < 2 ^ p .width → id < 2 ^ 24 → (es : List Sent) → eqb (ran p (powerOn p choice levels id) es .number) 3 ≡ false
+  never-3 choice levels id hc hl hi = ran-unbroken (powerOn p choice levels id) (power-on-fits p ok choice levels id hc hl hi)

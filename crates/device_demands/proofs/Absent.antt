@@ -113,7 +113,7 @@ module _ (p : Part) (ok : Lawful p) (s : State) (g : WellFormed p s) where
   }
 
 -- and so from power-on, after any list of events
-pub nowhere-ever : (p : Part) → Lawful p → (choice levels : ℕ) → choice < 4 → levels < 2 ^ p .width → (es : List Asked)
-    → Nowhere p (after p (powerOn p choice levels) es)
-nowhere-ever p ok choice levels hc hl es =
-    nowhere p ok (after p (powerOn p choice levels) es) (run-keeps p ok (powerOn p choice levels) (power-on-fits p ok choice levels hc hl) es)
+pub nowhere-ever : (p : Part) → Lawful p → (choice levels id : ℕ) → choice < 4 → levels < 2 ^ p .width → id < 2 ^ 24 → (es : List Asked)
+    → Nowhere p (after p (powerOn p choice levels id) es)
+nowhere-ever p ok choice levels id hc hl hi es =
+    nowhere p ok (after p (powerOn p choice levels id) es) (run-keeps p ok (powerOn p choice levels id) (power-on-fits p ok choice levels id hc hl hi) es)

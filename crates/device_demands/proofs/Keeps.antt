@@ -21,15 +21,15 @@ use Rattle.registers.specs.Interrupt.{workedOut}
 use Rattle.registers.proofs.Writing.{same as same-core}
 use Rattle.registers.proofs.Kept.{kept-written, kept-fetched, kept-levelled, kept-reset, line-right}
 use Rattle.pins.proofs.Rules.{reset-map}
-use Rattle.device_rules.specs.Device.{State, Event, Bus, Outcome, number, busAt, state, out, goes, addressByte, byteIn, fetchIn, resetted, step}
+use Rattle.device_rules.specs.Device.{State, Event, Bus, Outcome, number, busAt, state, out, goes, addressByte, ours, nextPlace, atPlace, addressed, byteIn, fetchIn, startIn, resetted, step}
 use Rattle.device_rules.specs.Refusals.{setsFit, imageFits, refusal, stepped, eventOf}
-use Rattle.device_rules.specs.Device.Bus.{Idle, Opened, Chosen, Filling, Sending, Call, Armed, Deaf}
+use Rattle.device_rules.specs.Device.Bus.{Idle, Opened, Chosen, Filling, Sending, Call, Armed, Deaf, Asking, Named, Reopened, Telling}
 use Rattle.device_rules.specs.Device.Event.{Start, Stop, HardwareReset, ByteSent, ByteFetched, Levels}
 use Rattle.device_rules.specs.Held.{Sound}
 use Rattle.device_rules.specs.declared.Answer.the-variants.{Ack, Nak}
 use Rattle.device_rules.specs.PowerOn.{powerOn}
 use Rattle.map.proofs.Onward.{known-small}
-use Rattle.device_rules.proofs.Images.{sound-of, fits-of}
+use Rattle.device_rules.proofs.Images.{sound-of, fits-of, identity-fits}
 use Rattle.device_demands.specs.Run.{Asked, after}
 use Rattle.registers.proofs.Pinwise.{load-set}
 use Rattle.device_demands.proofs.Lawful.{Lawful}
@@ -133,8 +133,9 @@ image-of p s d =
     simp (
       d .pointer-known,
       lt-ltb (s .mode) 2 (d .mode-small),
-      lt-ltb (s .bus) 8 (d .bus-small),
+      lt-ltb (s .bus) 12 (d .bus-small),
       lt-ltb (s .choice) 4 (d .choice-small),
+      identity-fits (s .id) (d .id-small) (d .place-small),
       sets-fit p (s .regs .sets) (d .within),
       d .file-fits,
       fits-of p s (d .right),
@@ -151,6 +152,12 @@ next-known p ok mode n h e =
     (not-true (reserved p (onward p n)) (ap (λ (b : Bool). b || not (reserved p (onward p n))) (sym e) ∙ ok .walks n h))
     (not-true (reserved p (next p n)) (ap (λ (b : Bool). b || not (reserved p (next p n))) (sym e) ∙ ok .steps n h))
 
+-- the place steps to a place
+next-small : (place : ℕ) → nextPlace place < 3
+next-small zero = omega arith
+next-small (suc zero) = omega arith
+next-small (suc (suc place)) = omega arith
+
 -- ---- each way in which a step changes the state
 module _ (p : Part) (ok : Lawful p) (s : State) (g : WellFormed p s) where
   pub to : (b : Bus) → WellFormed p (goes s b)
@@ -161,6 +168,8 @@ module _ (p : Part) (ok : Lawful p) (s : State) (g : WellFormed p s) where
       mode-small = g .sound .mode-small;
       bus-small = small b;
       choice-small = g .sound .choice-small;
+      id-small = g .sound .id-small;
+      place-small = g .sound .place-small;
       within = g .sound .within;
       file-fits = g .sound .file-fits;
       right = g .sound .right;
@@ -168,7 +177,7 @@ module _ (p : Part) (ok : Lawful p) (s : State) (g : WellFormed p s) where
     full = g .full;
   }
     where
-      small : (b : Bus) → number b < 8
+      small : (b : Bus) → number b < 12
       small Idle = omega arith
       small Opened = omega arith
       small Chosen = omega arith
@@ -177,6 +186,10 @@ module _ (p : Part) (ok : Lawful p) (s : State) (g : WellFormed p s) where
       small Call = omega arith
       small Armed = omega arith
       small Deaf = omega arith
+      small Asking = omega arith
+      small Named = omega arith
+      small Reopened = omega arith
+      small Telling = omega arith
 
   written-file : (k : Kind) → kindAt p (s .pointer) ≡ k → (b : ℕ)
       → (fileFits p (writtenAs p k (s .regs) (s .pointer) b .file) ≡ true) × (length (writtenAs p k (s .regs) (s .pointer) b .file) ≡ 128)
@@ -214,6 +227,8 @@ module _ (p : Part) (ok : Lawful p) (s : State) (g : WellFormed p s) where
       mode-small = g .sound .mode-small;
       bus-small = omega arith;
       choice-small = g .sound .choice-small;
+      id-small = g .sound .id-small;
+      place-small = g .sound .place-small;
       within = map-within (p .width) _ _;
       file-fits = written-file (kindAt p (s .pointer)) refl b .0;
       right = kept-written p (s .regs) (s .interrupt) (g .sound .right) (ok .mapped) (g .full) (s .pointer) (g .sound .pointer-small) b;
@@ -230,6 +245,8 @@ module _ (p : Part) (ok : Lawful p) (s : State) (g : WellFormed p s) where
       mode-small = g .sound .mode-small;
       bus-small = omega arith;
       choice-small = g .sound .choice-small;
+      id-small = g .sound .id-small;
+      place-small = g .sound .place-small;
       within = map-within (p .width) _ _;
       file-fits = g .sound .file-fits;
       right = kept-fetched p (s .regs) (s .interrupt) (g .sound .right) (s .pointer);
@@ -243,6 +260,8 @@ module _ (p : Part) (ok : Lawful p) (s : State) (g : WellFormed p s) where
       mode-small = g .sound .mode-small;
       bus-small = omega arith;
       choice-small = g .sound .choice-small;
+      id-small = g .sound .id-small;
+      place-small = g .sound .place-small;
       within = map-within (p .width) _ _;
       file-fits = g .sound .file-fits;
       right = kept-fetched p (s .regs) (s .interrupt) (g .sound .right) (s .pointer);
@@ -259,6 +278,8 @@ module _ (p : Part) (ok : Lawful p) (s : State) (g : WellFormed p s) where
       mode-small = omega arith;
       bus-small = omega arith;
       choice-small = g .sound .choice-small;
+      id-small = g .sound .id-small;
+      place-small = omega arith;
       within = map-within (p .width) _ _;
       file-fits = ok .defaults-fit;
       right = kept-reset p (s .regs) (ok .mapped);
@@ -275,6 +296,8 @@ module _ (p : Part) (ok : Lawful p) (s : State) (g : WellFormed p s) where
       mode-small = g .sound .mode-small;
       bus-small = g .sound .bus-small;
       choice-small = g .sound .choice-small;
+      id-small = g .sound .id-small;
+      place-small = g .sound .place-small;
       within = map-within (p .width) _ _;
       file-fits = g .sound .file-fits;
       right = kept-levelled p (s .regs) (s .interrupt) (g .sound .right) new;
@@ -282,9 +305,45 @@ module _ (p : Part) (ok : Lawful p) (s : State) (g : WellFormed p s) where
     full = g .full;
   }
 
+  -- the place of the Device ID's next byte
+  pub place-keeps : (x : ℕ) → x < 3 → WellFormed p (atPlace s x)
+  place-keeps x h = record {
+    sound = record {
+      pointer-small = g .sound .pointer-small;
+      pointer-known = g .sound .pointer-known;
+      mode-small = g .sound .mode-small;
+      bus-small = g .sound .bus-small;
+      choice-small = g .sound .choice-small;
+      id-small = g .sound .id-small;
+      place-small = h;
+      within = g .sound .within;
+      file-fits = g .sound .file-fits;
+      right = g .sound .right;
+    };
+    full = g .full;
+  }
+
+  -- the telling begins at the first byte
+  to-telling : WellFormed p (goes (atPlace s 0) Telling)
+  to-telling = record {
+    sound = record {
+      pointer-small = g .sound .pointer-small;
+      pointer-known = g .sound .pointer-known;
+      mode-small = g .sound .mode-small;
+      bus-small = omega arith;
+      choice-small = g .sound .choice-small;
+      id-small = g .sound .id-small;
+      place-small = omega arith;
+      within = g .sound .within;
+      file-fits = g .sound .file-fits;
+      right = g .sound .right;
+    };
+    full = g .full;
+  }
+
   -- a command that is not reserved
   pub point-keeps : (b : ℕ) → (r : Bool) → reserved p (b % 128) ≡ r
-      → WellFormed p (cond r (out Nak (goes s Deaf)) (out Ack (state (s .regs) (s .interrupt) (b % 128) (b / 128 % 2) (number Filling) (s .choice))) .after)
+      → WellFormed p (cond r (out Nak (goes s Deaf)) (out Ack (state (s .regs) (s .interrupt) (b % 128) (b / 128 % 2) (number Filling) (s .choice) (s .id))) .after)
   point-keeps b true e = to Deaf
   point-keeps b false e = record {
     sound = record {
@@ -293,6 +352,8 @@ module _ (p : Part) (ok : Lawful p) (s : State) (g : WellFormed p s) where
       mode-small = mod-lt (b / 128) (omega arith);
       bus-small = omega arith;
       choice-small = g .sound .choice-small;
+      id-small = g .sound .id-small;
+      place-small = g .sound .place-small;
       within = g .sound .within;
       file-fits = g .sound .file-fits;
       right = g .sound .right;
@@ -303,16 +364,25 @@ module _ (p : Part) (ok : Lawful p) (s : State) (g : WellFormed p s) where
   abbrev Kept : Outcome → Type 0
   Kept o = WellFormed p (o .after)
 
+  address-keeps : (b : ℕ) → Kept (addressed s b)
+  address-keeps b =
+      either-arm Kept (eqb b (addressByte s)) (to Chosen)
+      (either-arm Kept (eqb b (addressByte s + 1)) (to Sending) (either-arm Kept (eqb b 0x00) (to Call) (either-arm Kept (eqb b 0xf8) (to Asking) (to Deaf))))
+
   byte-keeps : (k : Bus) (b : ℕ) → WellFormed p (byteIn p k s b .after)
   unfolding byteIn
   byte-keeps Idle b = g
-  byte-keeps Opened b = either-arm Kept (eqb b (addressByte s)) (to Chosen) (either-arm Kept (eqb b (addressByte s + 1)) (to Sending) (either-arm Kept (eqb b 0x00) (to Call) (to Deaf)))
+  byte-keeps Opened b = address-keeps b
   byte-keeps Chosen b = point-keeps b (reserved p (b % 128)) refl
   byte-keeps Filling b = fill-keeps b
   byte-keeps Sending b = to Deaf
   byte-keeps Call b = either-arm Kept (eqb b 0x06) (to Armed) (to Deaf)
   byte-keeps Armed b = to Deaf
   byte-keeps Deaf b = g
+  byte-keeps Asking b = either-arm Kept (ours s b) (to Named) (to Deaf)
+  byte-keeps Named b = to Deaf
+  byte-keeps Reopened b = either-arm Kept (eqb b 0xf9) to-telling (address-keeps b)
+  byte-keeps Telling b = to Deaf
 
   sent-keeps : (k : Bus) (acknowledged : Bool) → WellFormed p (fetchIn p k s acknowledged .after)
   unfolding fetchIn
@@ -324,6 +394,11 @@ module _ (p : Part) (ok : Lawful p) (s : State) (g : WellFormed p s) where
   sent-keeps Call acknowledged = g
   sent-keeps Armed acknowledged = g
   sent-keeps Deaf acknowledged = g
+  sent-keeps Asking acknowledged = g
+  sent-keeps Named acknowledged = g
+  sent-keeps Reopened acknowledged = g
+  sent-keeps Telling true = place-keeps (nextPlace (s .id .place)) (next-small (s .id .place))
+  sent-keeps Telling false = to Deaf
 
   stop-keeps : (armed : Bool) → WellFormed p (cond armed (resetted p s) (goes s Idle))
   stop-keeps true = reset-keeps
@@ -331,7 +406,7 @@ module _ (p : Part) (ok : Lawful p) (s : State) (g : WellFormed p s) where
 
   pub step-keeps : (e : Event) → WellFormed p (step p s e .after)
   unfolding step
-  step-keeps Start = to Opened
+  step-keeps Start = to (startIn (busAt (s .bus)))
   step-keeps Stop = stop-keeps (eqb (s .bus) (number Armed))
   step-keeps HardwareReset = reset-keeps
   step-keeps (ByteSent b) = byte-keeps (busAt (s .bus)) b
@@ -344,15 +419,17 @@ module _ (p : Part) (ok : Lawful p) (s : State) (g : WellFormed p s) where
   stepped-keeps kind arg = either-arm Kept (eqb (refusal p s kind arg) 0) (step-keeps (eventOf kind arg)) g
 
 -- ---- power-on, and runs from it
-pub power-on-fits : (p : Part) → Lawful p → (choice levels : ℕ) → choice < 4 → levels < 2 ^ p .width → WellFormed p (powerOn p choice levels)
+pub power-on-fits : (p : Part) → Lawful p → (choice levels id : ℕ) → choice < 4 → levels < 2 ^ p .width → id < 2 ^ 24 → WellFormed p (powerOn p choice levels id)
 unfolding powerOn
-power-on-fits p ok choice levels hc hl = record {
+power-on-fits p ok choice levels id hc hl hi = record {
   sound = record {
     pointer-small = omega arith;
     pointer-known = ok .first-known;
     mode-small = omega arith;
     bus-small = omega arith;
     choice-small = hc;
+    id-small = hi;
+    place-small = omega arith;
     within = small;
     file-fits = ok .defaults-fit;
     right = kept-reset p (core [] levelled-at) (ok .mapped) ∙ ap (workedOut p) (same-core refl (sym (reset-map (p .width) levelled-at small)));
@@ -372,18 +449,18 @@ run-keeps p ok s g [] = g
 run-keeps p ok s g (e ∷ es) = run-keeps p ok (stepped p s (e .kind) (e .arg) .after) (stepped-keeps p ok s g (e .kind) (e .arg)) es
 
 -- from power-on, after any list of events, no image is refused
-pub never-broken : (p : Part) → Lawful p → (choice levels : ℕ) → choice < 4 → levels < 2 ^ p .width → (es : List Asked)
-    → imageFits p (after p (powerOn p choice levels) es) ≡ true
-never-broken p ok choice levels hc hl es =
-    image-of p (after p (powerOn p choice levels) es) (run-keeps p ok (powerOn p choice levels) (power-on-fits p ok choice levels hc hl) es .sound)
+pub never-broken : (p : Part) → Lawful p → (choice levels id : ℕ) → choice < 4 → levels < 2 ^ p .width → id < 2 ^ 24 → (es : List Asked)
+    → imageFits p (after p (powerOn p choice levels id) es) ≡ true
+never-broken p ok choice levels id hc hl hi es =
+    image-of p (after p (powerOn p choice levels id) es) (run-keeps p ok (powerOn p choice levels id) (power-on-fits p ok choice levels id hc hl hi) es .sound)
 
 -- the status set and the line are what the rules work out: after every step from every well-formed state
 pub kept-right : (p : Part) → Lawful p → (s : State) → WellFormed p s → (kind arg : ℕ) → stepped p s kind arg .after .interrupt ≡ workedOut p (stepped p s kind arg .after .regs)
 kept-right p ok s g kind arg = stepped-keeps p ok s g kind arg .sound .right
 
 -- and from power-on, after any list of events: the line is INT's then
-pub line-right-from-power-on : (p : Part) → Lawful p → (choice levels : ℕ) → choice < 4 → levels < 2 ^ p .width → (es : List Asked)
-    → eqb (after p (powerOn p choice levels) es .interrupt .line) 0 ≡ intAsserted p (after p (powerOn p choice levels) es .regs)
-line-right-from-power-on p ok choice levels hc hl es =
-    let s = after p (powerOn p choice levels) es in
-    line-right p (s .regs) (s .interrupt) (run-keeps p ok (powerOn p choice levels) (power-on-fits p ok choice levels hc hl) es .sound .right)
+pub line-right-from-power-on : (p : Part) → Lawful p → (choice levels id : ℕ) → choice < 4 → levels < 2 ^ p .width → id < 2 ^ 24 → (es : List Asked)
+    → eqb (after p (powerOn p choice levels id) es .interrupt .line) 0 ≡ intAsserted p (after p (powerOn p choice levels id) es .regs)
+line-right-from-power-on p ok choice levels id hc hl hi es =
+    let s = after p (powerOn p choice levels id) es in
+    line-right p (s .regs) (s .interrupt) (run-keeps p ok (powerOn p choice levels id) (power-on-fits p ok choice levels id hc hl hi) es .sound .right)

@@ -5,3 +5,4 @@ pub mod Lawful
 pub mod Machine
 pub mod Runs
 pub mod Transacting
+pub mod Identifying

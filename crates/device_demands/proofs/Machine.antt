@@ -10,8 +10,8 @@ use Rattle.pins.specs.OnePin.Happening.{Reset, Elsewhere}
 use Rattle.map.specs.Map.{Part, reserved}
 use Rattle.registers.specs.Registers.{Core, onePin}
 use Rattle.registers.proofs.Written.{write-pin, fetch-pin, level-pin, reset-pin}
-use Rattle.device_rules.specs.Device.{State, Event, Bus, Outcome, busAt, number, goes, addressByte, byteIn, fetchIn, resetted, step}
-use Rattle.device_rules.specs.Device.Bus.{Idle, Opened, Chosen, Filling, Sending, Call, Armed, Deaf}
+use Rattle.device_rules.specs.Device.{State, Event, Bus, Outcome, busAt, number, goes, addressByte, ours, addressed, byteIn, fetchIn, resetted, step}
+use Rattle.device_rules.specs.Device.Bus.{Idle, Opened, Chosen, Filling, Sending, Call, Armed, Deaf, Asking, Named, Reopened, Telling}
 use Rattle.device_rules.specs.Device.Event.{Start, Stop, HardwareReset, ByteSent, ByteFetched, Levels}
 use Rattle.device_demands.specs.Happens.{sentIn, fetchedIn, happensTo}
 use Rattle.device_demands.proofs.Lawful.{Lawful}
@@ -32,19 +32,25 @@ module _ (p : Part) (ok : Lawful p) (s : State) (i : ℕ) (hi : i < p .width) wh
   unfolding resetted
   reset = reset-pin p (s .regs) i hi (ok .mapped)
 
+  address-stays : (b : ℕ) → Same (addressed s b)
+  address-stays b =
+      either-arm Same (eqb b (addressByte s)) refl (either-arm Same (eqb b (addressByte s + 1)) refl (either-arm Same (eqb b 0x00) refl (either-arm Same (eqb b 0xf8) refl refl)))
+
   byte-pin : length (s .regs .file) ≡ 128 → s .pointer < 128 → (k : Bus) (b : ℕ)
       → P (byteIn p k s b .after .regs) ≡ after (sentIn p k s b i) (P (s .regs))
   unfolding byteIn sentIn
   byte-pin full hn Idle b = stays refl
-  byte-pin full hn Opened b =
-      stays (either-arm Same (eqb b (addressByte s)) refl
-      (either-arm Same (eqb b (addressByte s + 1)) refl (either-arm Same (eqb b 0x00) refl refl)))
+  byte-pin full hn Opened b = stays (address-stays b)
   byte-pin full hn Chosen b = stays (either-arm Same (reserved p (b % 128)) refl refl)
   byte-pin full hn Filling b = write-pin p (s .regs) i hi (ok .mapped) full (s .pointer) hn b
   byte-pin full hn Sending b = stays refl
   byte-pin full hn Call b = stays (either-arm Same (eqb b 0x06) refl refl)
   byte-pin full hn Armed b = stays refl
   byte-pin full hn Deaf b = stays refl
+  byte-pin full hn Asking b = stays (either-arm Same (ours s b) refl refl)
+  byte-pin full hn Named b = stays refl
+  byte-pin full hn Reopened b = stays (either-arm Same (eqb b 0xf9) refl (address-stays b))
+  byte-pin full hn Telling b = stays refl
 
   sent-back : (k : Bus) (acknowledged : Bool) → P (fetchIn p k s acknowledged .after .regs) ≡ after (fetchedIn p k s i) (P (s .regs))
   unfolding fetchIn fetchedIn
@@ -57,6 +63,11 @@ module _ (p : Part) (ok : Lawful p) (s : State) (i : ℕ) (hi : i < p .width) wh
   sent-back Call acknowledged = stays refl
   sent-back Armed acknowledged = stays refl
   sent-back Deaf acknowledged = stays refl
+  sent-back Asking acknowledged = stays refl
+  sent-back Named acknowledged = stays refl
+  sent-back Reopened acknowledged = stays refl
+  sent-back Telling true = stays refl
+  sent-back Telling false = stays refl
 
   stop-pin : (armed : Bool) → P (cond armed (resetted p s) (goes s Idle) .regs) ≡ after (cond armed Reset Elsewhere) (P (s .regs))
   stop-pin true = reset

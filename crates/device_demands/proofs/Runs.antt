@@ -9,9 +9,9 @@ use lib.Dec.{eqb, ltb, leb}
 use Rattle.bits.proofs.Decide.{either-arm}
 use Rattle.map.specs.Map.{Part, partOf, reserved}
 use Rattle.registers.specs.Registers.{drivenLow, drivenHigh, intAsserted}
-use Rattle.device_rules.specs.Device.{State, Event, Bus, Outcome, busAt, out, addressByte, byteIn, fetchIn, step}
+use Rattle.device_rules.specs.Device.{State, Event, Bus, Outcome, busAt, out, addressByte, ours, addressed, byteIn, fetchIn, step}
 use Rattle.device_rules.specs.Refusals.{imageFits, argumentFits, refusal, stepped, eventOf}
-use Rattle.device_rules.specs.Device.Bus.{Idle, Opened, Chosen, Filling, Sending, Call, Armed, Deaf}
+use Rattle.device_rules.specs.Device.Bus.{Idle, Opened, Chosen, Filling, Sending, Call, Armed, Deaf, Asking, Named, Reopened, Telling}
 use Rattle.device_rules.specs.Device.Event.{Start, Stop, HardwareReset, ByteSent, ByteFetched, Levels}
 use Rattle.device_rules.specs.Answers.{refusalNumber}
 use Rattle.device_rules.specs.declared.Answer.{Answer}
@@ -29,16 +29,25 @@ use Rattle.device_demands.proofs.Keeps.{WellFormed, image-of, stepped-k
 abbrev Answers : Outcome → Type 0
 Answers o = refusalNumber (o .answer) ≡ 0
 
+address-answers : (s : State) (b : ℕ) → Answers (addressed s b)
+address-answers s b =
+    either-arm Answers (eqb b (addressByte s)) refl
+    (either-arm Answers (eqb b (addressByte s + 1)) refl (either-arm Answers (eqb b 0x00) refl (either-arm Answers (eqb b 0xf8) refl refl)))
+
 byte-answers : (p : Part) (k : Bus) (s : State) (b : ℕ) → Answers (byteIn p k s b)
 unfolding byteIn
 byte-answers p Idle s b = refl
-byte-answers p Opened s b = either-arm Answers (eqb b (addressByte s)) refl (either-arm Answers (eqb b (addressByte s + 1)) refl (either-arm Answers (eqb b 0x00) refl refl))
+byte-answers p Opened s b = address-answers s b
 byte-answers p Chosen s b = either-arm Answers (reserved p (b % 128)) refl refl
 byte-answers p Filling s b = refl
 byte-answers p Sending s b = refl
 byte-answers p Call s b = either-arm Answers (eqb b 0x06) refl refl
 byte-answers p Armed s b = refl
 byte-answers p Deaf s b = refl
+byte-answers p Asking s b = either-arm Answers (ours s b) refl refl
+byte-answers p Named s b = refl
+byte-answers p Reopened s b = either-arm Answers (eqb b 0xf9) refl (address-answers s b)
+byte-answers p Telling s b = refl
 
 fetch-answers : (p : Part) (k : Bus) (s : State) (acknowledged : Bool) → Answers (fetchIn p k s acknowledged)
 unfolding fetchIn
@@ -50,6 +59,10 @@ fetch-answers p Filling s acknowledged = refl
 fetch-answers p Call s acknowledged = refl
 fetch-answers p Armed s acknowledged = refl
 fetch-answers p Deaf s acknowledged = refl
+fetch-answers p Asking s acknowledged = refl
+fetch-answers p Named s acknowledged = refl
+fetch-answers p Reopened s acknowledged = refl
+fetch-answers p Telling s acknowledged = refl
 
 pub step-answers : (p : Part) (s : State) (e : Event) → Answers (step p s e)
 unfolding step
@@ -84,14 +97,14 @@ run-unbroken p ok s g (e ∷ es) =
     ∙ run-unbroken p ok (stepped p s (e .kind) (e .arg) .after) (stepped-keeps p ok s g (e .kind) (e .arg)) es
 
 -- from power-on, no event of any list is refused for its image
-pub never-refused-for-image : (p : Part) → Lawful p → (choice levels : ℕ) → choice < 4 → levels < 2 ^ p .width → (es : List Asked)
-    → noneBroken (answers p (powerOn p choice levels) es) ≡ true
-never-refused-for-image p ok choice levels hc hl es = run-unbroken p ok (powerOn p choice levels) (power-on-fits p ok choice levels hc hl) es
+pub never-refused-for-image : (p : Part) → Lawful p → (choice levels id : ℕ) → choice < 4 → levels < 2 ^ p .width → id < 2 ^ 24 → (es : List Asked)
+    → noneBroken (answers p (powerOn p choice levels id) es) ≡ true
+never-refused-for-image p ok choice levels id hc hl hi es = run-unbroken p ok (powerOn p choice levels id) (power-on-fits p ok choice levels id hc hl hi) es
 
 -- ---- any functions with the contracts of `Device::power_on`, `power_on34`, `step`, `low`, `high` and `int`, as the code has them, say of both parts from
 -- power-on on what the rules' run sees, and none of the questions is ever refused
-made : (f : Functions) → Contracts f → (part : ℕ) → part < 2 → (choice levels : ℕ) → choice < 2 ^ 8 → levels < 2 ^ 64
-    → Makes part choice levels (making f part choice levels) × Represented (making f part choice levels .device)
+made : (f : Functions) → Contracts f → (part : ℕ) → part < 2 → (choice levels id : ℕ) → choice < 2 ^ 8 → levels < 2 ^ 64 → id < 2 ^ 64
+    → Makes part choice levels id (making f part choice levels id) × Represented (making f part choice levels id .device)
 made f c zero known = c .power-on
 made f c (suc zero) known = c .power-on34
 made f c (suc (suc n)) known = absurd (omega arith)
@@ -140,12 +153,12 @@ module _ (f : Functions) (c : Contracts f) (part : ℕ) (known : part < 2) where
       (said-seen next kept (o .device) is' (o .answer) ∙ ap (λ (a : Answer). unrefused (seen p (out a next) ∷ [])) (ap (λ (o : Outcome). o .answer) same))
       (follows next kept (o .device) is' es (a .2))
 
-  pub run-follows : (choice levels : ℕ) → choice < 4 → levels < 2 ^ p .width → (es : List Asked) → Askable es
-      → runWith f part choice levels es ≡ unrefused (run p choice levels es)
-  run-follows choice levels hc hl es a =
-      let m = made f c part known choice levels (omega (arith, hc)) (fits-word part levels hl) in
-      let d = making f part choice levels .device in
-      let s = powerOn p choice levels in
-      let w = power-on-fits p (lawful part) choice levels hc hl in
+  pub run-follows : (choice levels id : ℕ) → choice < 4 → levels < 2 ^ p .width → id < 2 ^ 24 → (es : List Asked) → Askable es
+      → runWith f part choice levels id es ≡ unrefused (run p choice levels id es)
+  run-follows choice levels id hc hl hi es a =
+      let m = made f c part known choice levels id (omega (arith, hc)) (fits-word part levels hl) (omega (arith, hi)) in
+      let d = making f part choice levels id .device in
+      let s = powerOn p choice levels id in
+      let w = power-on-fits p (lawful part) choice levels id hc hl hi in
       let is : Is part s d = record { represented = m .1; of-part = m .0 .part-is; holds = m .0 .as-ruled .made } in
       ap₂ (λ (x xs : List Said). x ++ xs) (said-seen s w d is Nothing) (follows s w d is es a)

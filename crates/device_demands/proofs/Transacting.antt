@@ -20,9 +20,9 @@ use Rattle.map.proofs.ByNumber.{kind-is}
 use Rattle.registers.specs.Registers.{Core, onePin, written, fetched, shownAs, shown}
 use Rattle.registers.specs.Interrupt.{Interrupt, workedOut, shownKept}
 use Rattle.registers.proofs.Kept.{kept-written, kept-fetched}
-use Rattle.device_rules.specs.Device.{State, Outcome, number, state, out, goes, addressByte, ringsAtWrite, ringsAtFetch, shownIn, byteIn, fetchIn, step}
+use Rattle.device_rules.specs.Device.{Identity, State, Bus, Outcome, number, busAt, state, out, goes, addressByte, ringsAtWrite, ringsAtFetch, shownIn, byteIn, fetchIn, startIn, step}
 use Rattle.device_rules.specs.Refusals.{stepped}
-use Rattle.device_rules.specs.Device.Bus.{Idle, Opened, Chosen, Filling, Sending, Armed, Deaf}
+use Rattle.device_rules.specs.Device.Bus.{Idle, Opened, Chosen, Filling, Sending, Call, Armed, Deaf, Asking, Named, Reopened, Telling}
 use Rattle.device_rules.specs.Device.Event.{ByteSent}
 use Rattle.device_rules.specs.declared.Answer.{Answer}
 use Rattle.device_rules.specs.declared.Answer.the-variants.{Nothing, Ack, Byte}
@@ -43,18 +43,18 @@ unfolding after
 ended p s = refl
 
 -- and its answers from what the first event is answered
-answers-on : (p : Part) (s : State) (e : Asked) (es : List Asked) (o : Outcome) → stepped p s (e .kind) (e .arg) ≡ o → answers p s (e ∷ es) ≡ o .answer ∷ answers p (o .after) es
+pub answers-on : (p : Part) (s : State) (e : Asked) (es : List Asked) (o : Outcome) → stepped p s (e .kind) (e .arg) ≡ o → answers p s (e ∷ es) ≡ o .answer ∷ answers p (o .after) es
 unfolding answers
 answers-on p s e es o q = ap (λ (o : Outcome). o .answer ∷ answers p (o .after) es) q
 
-answers-ended : (p : Part) (s : State) → answers p s [] ≡ []
+pub answers-ended : (p : Part) (s : State) → answers p s [] ≡ []
 unfolding answers
 answers-ended p s = refl
 
 -- ---- what is kept right
 -- a state is known by its registers and pins, where its status set and line are right
-righted : (p : Part) (s : State) → WellFormed p s → (n mode b : ℕ) → state (s .regs) (s .interrupt) n mode b (s .choice) ≡ rightly p (s .regs) n mode b (s .choice)
-righted p s g n mode b = ap (λ (k : Interrupt). state (s .regs) k n mode b (s .choice)) (g .sound .right)
+righted : (p : Part) (s : State) → WellFormed p s → (n mode b : ℕ) → state (s .regs) (s .interrupt) n mode b (s .choice) (s .id) ≡ rightly p (s .regs) n mode b (s .choice) (s .id)
+righted p s g n mode b = ap (λ (k : Interrupt). state (s .regs) k n mode b (s .choice) (s .id)) (g .sound .right)
 
 -- interrupt status, kept right, shows what the rules work out: a place of the last port that is no pin is no input, so that its bit is 0 in both
 module _ (p : Part) (ok : Lawful p) (r : Core) (fits : fileFits p (r .file) ≡ true) where
@@ -87,49 +87,87 @@ module _ (p : Part) (ok : Lawful p) (r : Core) (fits : fileFits p (r .file) ≡ 
       go false e = refl
 
 -- ---- each event of a transaction
+-- START leads to Opened or Reopened, and in both an address byte is taken
+pub ready : (P : Bus → Type 0) → P Opened → P Reopened → (k : Bus) → P (startIn k)
+unfolding startIn
+ready P a b Named = b
+ready P a b Reopened = b
+ready P a b Idle = a
+ready P a b Opened = a
+ready P a b Chosen = a
+ready P a b Filling = a
+ready P a b Sending = a
+ready P a b Call = a
+ready P a b Armed = a
+ready P a b Deaf = a
+ready P a b Asking = a
+ready P a b Telling = a
+
+abbrev pub opened : State → State
+opened s = goes s (startIn (busAt (s .bus)))
+
 module _ (p : Part) (ok : Lawful p) (s : State) (g : WellFormed p s) where
-  pub start : stepped p s 0 0 ≡ out Nothing (goes s Opened)
+  pub start : stepped p s 0 0 ≡ out Nothing (opened s)
   unfolding step
   start = sym (start-taken p s 0 (image-of p s (g .sound)))
 
-  stop : eqb (s .bus) (number Armed) ≡ false → stepped p s 1 0 ≡ out Nothing (goes s Idle)
+  pub stop : eqb (s .bus) (number Armed) ≡ false → stepped p s 1 0 ≡ out Nothing (goes s Idle)
   unfolding step
   stop e = sym (stop-taken p s 0 (image-of p s (g .sound))) ∙ simp e
 
-  sent-byte : (b : ℕ) → b < 256 → stepped p s 2 b ≡ step p s (ByteSent b)
+  pub sent-byte : (b : ℕ) → b < 256 → stepped p s 2 b ≡ step p s (ByteSent b)
   sent-byte b h = sym (byte-taken p s b (image-of p s (g .sound)) h)
 
   abbrev after-data : ℕ → Interrupt → State
-  after-data v k = state (written p (s .regs) (s .pointer) v) k (nextIn p (s .mode) (s .pointer)) (s .mode) (number Filling) (s .choice)
+  after-data v k = state (written p (s .regs) (s .pointer) v) k (nextIn p (s .mode) (s .pointer)) (s .mode) (number Filling) (s .choice) (s .id)
 
   rung : (v : ℕ) → ringsAtWrite p s v ≡ workedOut p (written p (s .regs) (s .pointer) v)
   rung v = kept-written p (s .regs) (s .interrupt) (g .sound .right) (ok .mapped) (g .full) (s .pointer) (g .sound .pointer-small) v
 
   -- a data byte in Filling
   pub data-byte : s .bus ≡ number Filling → (v : ℕ) → v < 256
-      → stepped p s 2 v ≡ out Ack (rightly p (written p (s .regs) (s .pointer) v) (nextIn p (s .mode) (s .pointer)) (s .mode) (number Filling) (s .choice))
+      → stepped p s 2 v ≡ out Ack (rightly p (written p (s .regs) (s .pointer) v) (nextIn p (s .mode) (s .pointer)) (s .mode) (number Filling) (s .choice) (s .id))
   unfolding step byteIn
   data-byte e v h = sent-byte v h ∙ simp e (ap (λ (k : Interrupt). out Ack (after-data v k)) (rung v))
 
-  data-kept : s .bus ≡ number Filling → (v : ℕ) → WellFormed p (rightly p (written p (s .regs) (s .pointer) v) (nextIn p (s .mode) (s .pointer)) (s .mode) (number Filling) (s .choice))
+  data-kept : s .bus ≡ number Filling → (v : ℕ) → WellFormed p (rightly p (written p (s .regs) (s .pointer) v) (nextIn p (s .mode) (s .pointer)) (s .mode) (number Filling) (s .choice) (s .id))
   unfolding byteIn
   data-kept e v = subst (λ (k : Interrupt). WellFormed p (after-data v k)) (rung v) (fill-keeps p ok s g v)
 
 module _ (p : Part) (ok : Lawful p) (s : State) (g : WellFormed p s) where
-  pub to-write : stepped p (goes s Opened) 2 (addressByte s) ≡ out Ack (goes s Chosen)
-  unfolding step byteIn
-  to-write =
-      sent-byte p ok (goes s Opened) (to p ok s g Opened) (addressByte s) (omega (arith, g .sound .choice-small)) ∙ simp (eq-eqb (addressByte s) (addressByte s) refl)
+  abbrev Taken : (b : ℕ) → State → Bus → Type 0
+  Taken b t k = stepped p (goes s k) 2 b ≡ out Ack t
 
-  to-read : stepped p (goes s Opened) 2 (addressByte s + 1) ≡ out Ack (goes s Sending)
+  pub to-write : stepped p (opened s) 2 (addressByte s) ≡ out Ack (goes s Chosen)
   unfolding step byteIn
-  to-read =
-      sent-byte p ok (goes s Opened) (to p ok s g Opened) (addressByte s + 1) (omega (arith, g .sound .choice-small))
-      ∙ simp (ne-eqb (addressByte s + 1) (addressByte s) (λ e. omega arith), eq-eqb (addressByte s + 1) (addressByte s + 1) refl)
+  to-write = ready (Taken (addressByte s) (goes s Chosen)) in-opened in-reopened (busAt (s .bus))
+    where
+      in-opened : Taken (addressByte s) (goes s Chosen) Opened
+      in-opened =
+          sent-byte p ok (goes s Opened) (to p ok s g Opened) (addressByte s) (omega (arith, g .sound .choice-small)) ∙ simp (eq-eqb (addressByte s) (addressByte s) refl)
+
+      in-reopened : Taken (addressByte s) (goes s Chosen) Reopened
+      in-reopened =
+          sent-byte p ok (goes s Reopened) (to p ok s g Reopened) (addressByte s) (omega (arith, g .sound .choice-small))
+          ∙ simp (ne-eqb (addressByte s) 0xf9 (λ e. omega (arith, g .sound .choice-small, e)), eq-eqb (addressByte s) (addressByte s) refl)
+
+  to-read : stepped p (opened s) 2 (addressByte s + 1) ≡ out Ack (goes s Sending)
+  unfolding step byteIn
+  to-read = ready (Taken (addressByte s + 1) (goes s Sending)) in-opened in-reopened (busAt (s .bus))
+    where
+      in-opened : Taken (addressByte s + 1) (goes s Sending) Opened
+      in-opened =
+          sent-byte p ok (goes s Opened) (to p ok s g Opened) (addressByte s + 1) (omega (arith, g .sound .choice-small))
+          ∙ simp (ne-eqb (addressByte s + 1) (addressByte s) (λ e. omega arith), eq-eqb (addressByte s + 1) (addressByte s + 1) refl)
+
+      in-reopened : Taken (addressByte s + 1) (goes s Sending) Reopened
+      in-reopened =
+          sent-byte p ok (goes s Reopened) (to p ok s g Reopened) (addressByte s + 1) (omega (arith, g .sound .choice-small))
+          ∙ simp (ne-eqb (addressByte s + 1) 0xf9 (λ e. omega (arith, g .sound .choice-small, e)), ne-eqb (addressByte s + 1) (addressByte s) (λ e. omega arith), eq-eqb (addressByte s + 1) (addressByte s + 1) refl)
 
   -- the state after START, the address byte and the command c
   abbrev pub filling : ℕ → State
-  filling c = state (s .regs) (s .interrupt) (numberIn c) (modeIn c) (number Filling) (s .choice)
+  filling c = state (s .regs) (s .interrupt) (numberIn c) (modeIn c) (number Filling) (s .choice) (s .id)
 
   module _ (c : ℕ) (small : c < 256) (known : reserved p (numberIn c) ≡ false) where
     pub command : stepped p (goes s Chosen) 2 c ≡ out Ack (filling c)
@@ -141,12 +179,12 @@ module _ (p : Part) (ok : Lawful p) (s : State) (g : WellFormed p s) where
 
 -- ---- writes
 -- data bytes and STOP, in Filling
-module _ (p : Part) (ok : Lawful p) (mode choice : ℕ) where
+module _ (p : Part) (ok : Lawful p) (mode choice : ℕ) (id : Identity) where
   abbrev Filled : Core → ℕ → State
-  Filled r n = rightly p r n mode (number Filling) choice
+  Filled r n = rightly p r n mode (number Filling) choice id
 
   fill-all : (r : Core) (n : ℕ) → WellFormed p (Filled r n) → (vs : List ℕ) → Bytes vs
-      → after p (Filled r n) (sentAll vs) ≡ rightly p (writtenFrom p mode r n vs) (walked p mode n (length vs)) mode (number Idle) choice
+      → after p (Filled r n) (sentAll vs) ≡ rightly p (writtenFrom p mode r n vs) (walked p mode n (length vs)) mode (number Idle) choice id
   unfolding writtenFrom walked
   fill-all r n g [] b = on p (Filled r n) STOP [] _ (stop p ok (Filled r n) g refl) ∙ ended p _
   fill-all r n g (v ∷ vs) b =
@@ -164,32 +202,32 @@ module _ (p : Part) (ok : Lawful p) (s : State) (g : WellFormed p s) (c : ℕ) (
   -- START, address byte, command, data bytes, STOP leave the registers written one after the other, Idle, the pointer stepped as often by the command's mode, which stays
   pub bus-writes : (vs : List ℕ) → Bytes vs
       → after p s (writeAllOver (s .choice) c vs)
-      ≡ rightly p (writtenFrom p (modeIn c) (s .regs) (numberIn c) vs) (walked p (modeIn c) (numberIn c) (length vs)) (modeIn c) (number Idle) (s .choice)
+      ≡ rightly p (writtenFrom p (modeIn c) (s .regs) (numberIn c) vs) (walked p (modeIn c) (numberIn c) (length vs)) (modeIn c) (number Idle) (s .choice) (s .id)
   bus-writes vs b =
-      on p s START _ _ (start p ok s g) ∙ on p (goes s Opened) (toWrite (s .choice)) _ _ (to-write p ok s g) ∙ on p (goes s Chosen) (sent c) _ _ (command p ok s g c small known)
+      on p s START _ _ (start p ok s g) ∙ on p (opened s) (toWrite (s .choice)) _ _ (to-write p ok s g) ∙ on p (goes s Chosen) (sent c) _ _ (command p ok s g c small known)
       ∙ ap (λ (t : State). after p t (sentAll vs)) (righted p s g (numberIn c) (modeIn c) (number Filling))
-      ∙ fill-all p ok (modeIn c) (s .choice) (s .regs) (numberIn c) (subst (WellFormed p) (righted p s g (numberIn c) (modeIn c) (number Filling)) (fills p ok s g c small known)) vs b
+      ∙ fill-all p ok (modeIn c) (s .choice) (s .id) (s .regs) (numberIn c) (subst (WellFormed p) (righted p s g (numberIn c) (modeIn c) (number Filling)) (fills p ok s g c small known)) vs b
 
   -- and each of them is acknowledged
   pub bus-writes-answers : (vs : List ℕ) → Bytes vs → answers p s (writeAllOver (s .choice) c vs) ≡ Nothing ∷ Ack ∷ Ack ∷ acks vs (Nothing ∷ [])
   bus-writes-answers vs b =
       answers-on p s START _ _ (start p ok s g)
       ∙ ap (λ (l : List Answer). Nothing ∷ l)
-      (answers-on p (goes s Opened) (toWrite (s .choice)) _ _ (to-write p ok s g)
+      (answers-on p (opened s) (toWrite (s .choice)) _ _ (to-write p ok s g)
       ∙ ap (λ (l : List Answer). Ack ∷ l)
       (answers-on p (goes s Chosen) (sent c) _ _ (command p ok s g c small known)
       ∙ ap (λ (l : List Answer). Ack ∷ l)
       (ap (λ (t : State). answers p t (sentAll vs)) (righted p s g (numberIn c) (modeIn c) (number Filling))
-      ∙ fill-answers p ok (modeIn c) (s .choice) (s .regs) (numberIn c) (subst (WellFormed p) (righted p s g (numberIn c) (modeIn c) (number Filling)) (fills p ok s g c small known)) vs b)))
+      ∙ fill-answers p ok (modeIn c) (s .choice) (s .id) (s .regs) (numberIn c) (subst (WellFormed p) (righted p s g (numberIn c) (modeIn c) (number Filling)) (fills p ok s g c small known)) vs b)))
 
 -- ---- reads
 -- fetches and STOP, in Sending
-module _ (p : Part) (ok : Lawful p) (mode choice : ℕ) where
+module _ (p : Part) (ok : Lawful p) (mode choice : ℕ) (id : Identity) where
   abbrev Sent : Core → ℕ → State
-  Sent r n = rightly p r n mode (number Sending) choice
+  Sent r n = rightly p r n mode (number Sending) choice id
 
   abbrev Left : Core → ℕ → State
-  Left r n = rightly p r n mode (number Deaf) choice
+  Left r n = rightly p r n mode (number Deaf) choice id
 
   module _ (r : Core) (n : ℕ) (g : WellFormed p (Sent r n)) where
     settled : ringsAtFetch p (Sent r n) ≡ workedOut p (fetched p r n)
@@ -202,24 +240,24 @@ module _ (p : Part) (ok : Lawful p) (mode choice : ℕ) where
     unfolding step fetchIn
     fetch-on =
         sym (fetch-taken p (Sent r n) 1 (image-of p (Sent r n) (g .sound)) (omega arith))
-        ∙ ap₂ (λ (b : ℕ) (k : Interrupt). out (Byte b) (state (fetched p r n) k (nextIn p mode n) mode (number Sending) choice)) shows settled
+        ∙ ap₂ (λ (b : ℕ) (k : Interrupt). out (Byte b) (state (fetched p r n) k (nextIn p mode n) mode (number Sending) choice id)) shows settled
 
     fetch-last : stepped p (Sent r n) 3 0 ≡ out (Byte (shown p r n)) (Left (fetched p r n) n)
     unfolding step fetchIn
     fetch-last =
         sym (fetch-taken p (Sent r n) 0 (image-of p (Sent r n) (g .sound)) (omega arith))
-        ∙ ap₂ (λ (b : ℕ) (k : Interrupt). out (Byte b) (state (fetched p r n) k n mode (number Deaf) choice)) shows settled
+        ∙ ap₂ (λ (b : ℕ) (k : Interrupt). out (Byte b) (state (fetched p r n) k n mode (number Deaf) choice id)) shows settled
 
     on-kept : WellFormed p (Sent (fetched p r n) (nextIn p mode n))
     unfolding fetchIn
-    on-kept = subst (λ (k : Interrupt). WellFormed p (state (fetched p r n) k (nextIn p mode n) mode (number Sending) choice)) settled (fetch-keeps p ok (Sent r n) g true)
+    on-kept = subst (λ (k : Interrupt). WellFormed p (state (fetched p r n) k (nextIn p mode n) mode (number Sending) choice id)) settled (fetch-keeps p ok (Sent r n) g true)
 
     last-kept : WellFormed p (Left (fetched p r n) n)
     unfolding fetchIn
-    last-kept = subst (λ (k : Interrupt). WellFormed p (state (fetched p r n) k n mode (number Deaf) choice)) settled (fetch-keeps p ok (Sent r n) g false)
+    last-kept = subst (λ (k : Interrupt). WellFormed p (state (fetched p r n) k n mode (number Deaf) choice id)) settled (fetch-keeps p ok (Sent r n) g false)
 
   fetch-all : (r : Core) (n : ℕ) → WellFormed p (Sent r n) → (more : ℕ)
-      → after p (Sent r n) (fetchedAll more) ≡ rightly p (fetchedFrom p mode r n more) (walked p mode n more) mode (number Idle) choice
+      → after p (Sent r n) (fetchedAll more) ≡ rightly p (fetchedFrom p mode r n more) (walked p mode n more) mode (number Idle) choice id
   unfolding fetchedFrom walked
   fetch-all r n g zero =
       on p (Sent r n) (fetched-byte false) _ _ (fetch-last r n g)
@@ -240,28 +278,28 @@ module _ (p : Part) (ok : Lawful p) (mode choice : ℕ) where
 module _ (p : Part) (ok : Lawful p) (s : State) (g : WellFormed p s) where
   -- START, address byte plus 1, fetches: the bytes from the pointer on
   pub bus-reads-on : (more : ℕ)
-      → after p s (readAllOn (s .choice) more) ≡ rightly p (fetchedFrom p (s .mode) (s .regs) (s .pointer) more) (walked p (s .mode) (s .pointer) more) (s .mode) (number Idle) (s .choice)
+      → after p s (readAllOn (s .choice) more) ≡ rightly p (fetchedFrom p (s .mode) (s .regs) (s .pointer) more) (walked p (s .mode) (s .pointer) more) (s .mode) (number Idle) (s .choice) (s .id)
   bus-reads-on more =
-      on p s START _ _ (start p ok s g) ∙ on p (goes s Opened) (toRead (s .choice)) _ _ (to-read p ok s g)
+      on p s START _ _ (start p ok s g) ∙ on p (opened s) (toRead (s .choice)) _ _ (to-read p ok s g)
       ∙ ap (λ (t : State). after p t (fetchedAll more)) (righted p s g (s .pointer) (s .mode) (number Sending))
-      ∙ fetch-all p ok (s .mode) (s .choice) (s .regs) (s .pointer) (subst (WellFormed p) (righted p s g (s .pointer) (s .mode) (number Sending)) (to p ok s g Sending)) more
+      ∙ fetch-all p ok (s .mode) (s .choice) (s .id) (s .regs) (s .pointer) (subst (WellFormed p) (righted p s g (s .pointer) (s .mode) (number Sending)) (to p ok s g Sending)) more
 
   pub bus-reads-on-answers : (more : ℕ)
       → answers p s (readAllOn (s .choice) more) ≡ Nothing ∷ Ack ∷ shownFrom p (s .mode) (s .regs) (s .pointer) more (Nothing ∷ [])
   bus-reads-on-answers more =
       answers-on p s START _ _ (start p ok s g)
       ∙ ap (λ (l : List Answer). Nothing ∷ l)
-      (answers-on p (goes s Opened) (toRead (s .choice)) _ _ (to-read p ok s g)
+      (answers-on p (opened s) (toRead (s .choice)) _ _ (to-read p ok s g)
       ∙ ap (λ (l : List Answer). Ack ∷ l)
       (ap (λ (t : State). answers p t (fetchedAll more)) (righted p s g (s .pointer) (s .mode) (number Sending))
-      ∙ fetch-answers p ok (s .mode) (s .choice) (s .regs) (s .pointer) (subst (WellFormed p) (righted p s g (s .pointer) (s .mode) (number Sending)) (to p ok s g Sending)) more))
+      ∙ fetch-answers p ok (s .mode) (s .choice) (s .id) (s .regs) (s .pointer) (subst (WellFormed p) (righted p s g (s .pointer) (s .mode) (number Sending)) (to p ok s g Sending)) more))
 
 -- a command first: the bytes from its register on, by its mode
 module _ (p : Part) (ok : Lawful p) (s : State) (g : WellFormed p s) (c : ℕ) (small : c < 256) (known : reserved p (numberIn c) ≡ false) (more : ℕ) where
   pub bus-reads : after p s (readAllOver (s .choice) c more)
-      ≡ rightly p (fetchedFrom p (modeIn c) (s .regs) (numberIn c) more) (walked p (modeIn c) (numberIn c) more) (modeIn c) (number Idle) (s .choice)
+      ≡ rightly p (fetchedFrom p (modeIn c) (s .regs) (numberIn c) more) (walked p (modeIn c) (numberIn c) more) (modeIn c) (number Idle) (s .choice) (s .id)
   bus-reads =
-      on p s START _ _ (start p ok s g) ∙ on p (goes s Opened) (toWrite (s .choice)) _ _ (to-write p ok s g) ∙ on p (goes s Chosen) (sent c) _ _ (command p ok s g c small known)
+      on p s START _ _ (start p ok s g) ∙ on p (opened s) (toWrite (s .choice)) _ _ (to-write p ok s g) ∙ on p (goes s Chosen) (sent c) _ _ (command p ok s g c small known)
       ∙ bus-reads-on p ok (filling p ok s g c) (fills p ok s g c small known) more
 
   pub bus-reads-answers : answers p s (readAllOver (s .choice) c more)
@@ -269,7 +307,7 @@ module _ (p : Part) (ok : Lawful p) (s : State) (g : WellFormed p s) (c : ℕ) (
   bus-reads-answers =
       answers-on p s START _ _ (start p ok s g)
       ∙ ap (λ (l : List Answer). Nothing ∷ l)
-      (answers-on p (goes s Opened) (toWrite (s .choice)) _ _ (to-write p ok s g)
+      (answers-on p (opened s) (toWrite (s .choice)) _ _ (to-write p ok s g)
       ∙ ap (λ (l : List Answer). Ack ∷ l)
       (answers-on p (goes s Chosen) (sent c) _ _ (command p ok s g c small known)
       ∙ ap (λ (l : List Answer). Ack ∷ l) (bus-reads-on-answers p ok (filling p ok s g c) (fills p ok s g c small known) more)))

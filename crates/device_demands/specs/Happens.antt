@@ -8,7 +8,7 @@ use Rattle.pins.specs.OnePin.Happening.{LevelTo, Reset, Elsewhere}
 use Rattle.map.specs.Map.{Part, kindAt}
 use Rattle.registers.specs.Registers.{writtenTo, fetchedAs}
 use Rattle.device_rules.specs.Device.{State, Event, Bus, busAt, number}
-use Rattle.device_rules.specs.Device.Bus.{Idle, Opened, Chosen, Filling, Sending, Call, Armed, Deaf}
+use Rattle.device_rules.specs.Device.Bus.{Idle, Opened, Chosen, Filling, Sending, Call, Armed, Deaf, Asking, Named, Reopened, Telling}
 use Rattle.device_rules.specs.Device.Event.{Start, Stop, HardwareReset, ByteSent, ByteFetched, Levels}
 
 -- a byte from the master reaches a register only in Filling
@@ -21,6 +21,10 @@ sentIn p Sending s b i = Elsewhere
 sentIn p Call s b i = Elsewhere
 sentIn p Armed s b i = Elsewhere
 sentIn p Deaf s b i = Elsewhere
+sentIn p Asking s b i = Elsewhere
+sentIn p Named s b i = Elsewhere
+sentIn p Reopened s b i = Elsewhere
+sentIn p Telling s b i = Elsewhere
 
 -- a fetch reaches a register only in Sending
 unfoldable pub fetchedIn : Part → Bus → State → (i : ℕ) → Happening
@@ -32,6 +36,10 @@ fetchedIn p Filling s i = Elsewhere
 fetchedIn p Call s i = Elsewhere
 fetchedIn p Armed s i = Elsewhere
 fetchedIn p Deaf s i = Elsewhere
+fetchedIn p Asking s i = Elsewhere
+fetchedIn p Named s i = Elsewhere
+fetchedIn p Reopened s i = Elsewhere
+fetchedIn p Telling s i = Elsewhere
 
 unfoldable pub happensTo : Part → State → Event → (i : ℕ) → Happening
 happensTo p s Start i = Elsewhere

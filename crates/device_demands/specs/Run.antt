@@ -44,8 +44,8 @@ seenFrom p s [] = []
 seenFrom p s (e ∷ es) = seen p (stepped p s (e .kind) (e .arg)) ∷ seenFrom p (stepped p s (e .kind) (e .arg) .after) es
 
 -- a run: what is seen at power-on, before the first event, and after each event
-abbrev pub run : Part → (choice levels : ℕ) → List Asked → List Seen
-run p choice levels es = seen p (out Nothing (powerOn p choice levels)) ∷ seenFrom p (powerOn p choice levels) es
+abbrev pub run : Part → (choice levels id : ℕ) → List Asked → List Seen
+run p choice levels id es = seen p (out Nothing (powerOn p choice levels id)) ∷ seenFrom p (powerOn p choice levels id) es
 
 -- the answers alone
 unfoldable pub answers : Part → State → List Asked → List Answer
@@ -55,17 +55,17 @@ answers p s (e ∷ es) = stepped p s (e .kind) (e .arg) .answer ∷ answers p (s
 -- ---- the same run on the code's own device
 -- the functions of `Device`, each with its result for its arguments
 pub record Functions : Type 0 where
-  pub power-on : (choice levels : ℕ) → Made
-  pub power-on34 : (choice levels : ℕ) → Made
+  pub power-on : (choice levels id : ℕ) → Made
+  pub power-on34 : (choice levels id : ℕ) → Made
   pub step : Device → (kind arg : ℕ) → Stepped
   pub low : Device → Driven
   pub high : Device → Driven
   pub int : Device → Line
 
 -- the function that makes a device of that part
-abbrev pub making : Functions → (part choice levels : ℕ) → Made
-making f zero choice levels = f .power-on choice levels
-making f (suc n) choice levels = f .power-on34 choice levels
+abbrev pub making : Functions → (part choice levels id : ℕ) → Made
+making f zero choice levels id = f .power-on choice levels id
+making f (suc n) choice levels id = f .power-on34 choice levels id
 
 -- what the code says: the answer, and to the three questions a refusal's number and the value
 pub record Said : Type 0 where
@@ -81,8 +81,8 @@ unfoldable pub saidFrom : Functions → Device → List Asked → List Said
 saidFrom f d [] = []
 saidFrom f d (e ∷ es) = said f (f .step d (e .kind) (e .arg) .answer) (f .step d (e .kind) (e .arg) .device) ∷ saidFrom f (f .step d (e .kind) (e .arg) .device) es
 
-abbrev pub runWith : Functions → (part choice levels : ℕ) → List Asked → List Said
-runWith f part choice levels es = said f Nothing (making f part choice levels .device) ∷ saidFrom f (making f part choice levels .device) es
+abbrev pub runWith : Functions → (part choice levels id : ℕ) → List Asked → List Said
+runWith f part choice levels id es = said f Nothing (making f part choice levels id .device) ∷ saidFrom f (making f part choice levels id .device) es
 
 -- what is seen, said with no refusal
 abbrev pub unrefused : List Seen → List Said
@@ -90,7 +90,7 @@ unrefused [] = []
 unrefused (x ∷ xs) = record { answer = x .answer; low = driven 0 (x .low); high = driven 0 (x .high); int = line 0 (x .int) } ∷ unrefused xs
 
 -- ---- what the code's types hold
--- a device: 128 bytes, five pin sets of 64 bits, six bytes
+-- a device: 128 bytes, five pin sets and a Device ID of 64 bits, seven bytes
 pub record Represented (d : Device) : Type 0 where
   pub part : d .part < 2 ^ 8
   pub entries : length (d .file) ≡ 128
@@ -105,6 +105,8 @@ pub record Represented (d : Device) : Type 0 where
   pub status : d .status < 2 ^ 64
   pub line : d .line < 2 ^ 8
   pub mode : d .mode < 2 ^ 8
+  pub number : d .number < 2 ^ 64
+  pub place : d .place < 2 ^ 8
 
 -- events: a kind of 32 bits, an argument of 64
 abbrev pub Askable : List Asked → Type 0
@@ -113,10 +115,10 @@ Askable (e ∷ es) = (e .kind < 2 ^ 32) × (e .arg < 2 ^ 64) × Askable es
 
 -- the contracts as the code has them: of arguments that its types hold, and with results that they hold
 pub record Contracts (f : Functions) : Type 0 where
-  pub power-on : (choice levels : ℕ) → choice < 2 ^ 8 → levels < 2 ^ 64
-      → Makes 0 choice levels (f .power-on choice levels) × Represented (f .power-on choice levels .device)
-  pub power-on34 : (choice levels : ℕ) → choice < 2 ^ 8 → levels < 2 ^ 64
-      → Makes 1 choice levels (f .power-on34 choice levels) × Represented (f .power-on34 choice levels .device)
+  pub power-on : (choice levels id : ℕ) → choice < 2 ^ 8 → levels < 2 ^ 64 → id < 2 ^ 64
+      → Makes 0 choice levels id (f .power-on choice levels id) × Represented (f .power-on choice levels id .device)
+  pub power-on34 : (choice levels id : ℕ) → choice < 2 ^ 8 → levels < 2 ^ 64 → id < 2 ^ 64
+      → Makes 1 choice levels id (f .power-on34 choice levels id) × Represented (f .power-on34 choice levels id .device)
   pub step : (d : Device) → Represented d → (kind arg : ℕ) → kind < 2 ^ 32 → arg < 2 ^ 64
       → Steps d kind arg (f .step d kind arg) × Represented (f .step d kind arg .device)
   pub low : (d : Device) → Represented d → f .low d ≡ lowOf d

@@ -6,14 +6,14 @@ use Rattle.bits.specs.Bits.{val}
 use Rattle.map.specs.Map.{Part, nextIn}
 use Rattle.registers.specs.Registers.{Core, written, fetched, shown}
 use Rattle.registers.specs.Interrupt.{workedOut}
-use Rattle.device_rules.specs.Device.{State, state}
+use Rattle.device_rules.specs.Device.{Identity, State, identity, state, byteAt, nextPlace}
 use Rattle.device_rules.specs.declared.Answer.{Answer}
 use Rattle.device_rules.specs.declared.Answer.the-variants.{Ack, Byte}
 use Rattle.device_demands.specs.Run.{Asked}
 
 -- a state whose status set and line are what the rules work out
-abbrev pub rightly : Part → Core → (pointer mode bus choice : ℕ) → State
-rightly p r pointer mode bus choice = state r (workedOut p r) pointer mode bus choice
+abbrev pub rightly : Part → Core → (pointer mode bus choice : ℕ) → Identity → State
+rightly p r pointer mode bus choice id = state r (workedOut p r) pointer mode bus choice id
 
 abbrev pub ask : (kind arg : ℕ) → Asked
 ask kind arg = record { kind = kind; arg = arg }
@@ -99,6 +99,21 @@ shownFrom p mode r n (suc more) then = Byte (shown p r n) ∷ shownFrom p mode (
 unfoldable pub fetchedFrom : Part → (mode : ℕ) → Core → (n more : ℕ) → Core
 fetchedFrom p mode r n zero = fetched p r n
 fetchedFrom p mode r n (suc more) = fetchedFrom p mode (fetched p r n) (nextIn p mode n) more
+
+-- ---- the Device ID
+-- the question, our byte with either lowest bit, START again, the question to tell, and fetches
+abbrev pub identify : (choice : ℕ) (low : Bool) (more : ℕ) → List Asked
+identify choice low more = START ∷ sent 0xf8 ∷ sent (2 * (0x20 + choice) + val low) ∷ START ∷ sent 0xf9 ∷ fetchedAll more
+
+-- so many places on
+abbrev pub placesOn : Identity → (more : ℕ) → Identity
+placesOn id zero = id
+placesOn id (suc more) = placesOn (identity (id .number) (nextPlace (id .place))) more
+
+-- the bytes that are told, the highest first, round and round
+abbrev pub toldFrom : Identity → (more : ℕ) → (then : List Answer) → List Answer
+toldFrom id zero then = Byte (byteAt id) ∷ then
+toldFrom id (suc more) then = Byte (byteAt id) ∷ toldFrom (identity (id .number) (nextPlace (id .place))) more then
 
 -- ---- one byte, as the bench points have it
 -- the command n is set, and a byte is fetched

@@ -11,8 +11,8 @@ use Rattle.map.specs.Map.{Part, reserved, fileFits}
 use Rattle.map.proofs.Onward.{known-small}
 use Rattle.registers.specs.Interrupt.{Interrupt, workedOut}
 use Rattle.registers.proofs.Kept.{same-interrupt}
-use Rattle.device_rules.specs.Device.{State, out, step}
-use Rattle.device_rules.specs.Refusals.{eventOf, setsFit, interruptFits, imageFits, refusal, stepped}
+use Rattle.device_rules.specs.Device.{Identity, State, out, step}
+use Rattle.device_rules.specs.Refusals.{eventOf, setsFit, identityFits, interruptFits, imageFits, refusal, stepped}
 use Rattle.device_rules.specs.Device.Event.{Start, Stop, ByteSent, ByteFetched}
 use Rattle.device_rules.specs.Held.{Sound}
 use Rattle.device_rules.specs.declared.Answer.the-variants.{Refused}
@@ -47,29 +47,45 @@ unfolding interruptFits
 fits-of p s e =
     simp (eq-eqb _ _ (ap (λ (k : Interrupt). k .status) e), eq-eqb _ _ (ap (λ (k : Interrupt). k .line) e))
 
+pub identity-of : (id : Identity) → identityFits id ≡ true → (id .number < 2 ^ 24) × (id .place < 3)
+unfolding identityFits
+identity-of id e =
+    let n = ltb (id .number) (2 ^ 24) in
+    let q = ltb (id .place) 3 in
+    (ltb-true (id .number) (2 ^ 24) (and-left n q e), ltb-true (id .place) 3 (and-right n q e))
+
+pub identity-fits : (id : Identity) → id .number < 2 ^ 24 → id .place < 3 → identityFits id ≡ true
+unfolding identityFits
+identity-fits id h m = simp (lt-ltb (id .number) (2 ^ 24) h, lt-ltb (id .place) 3 m)
+
 -- what is known of a state whose image is not refused
 pub sound-of : (p : Part) (s : State) → imageFits p s ≡ true → Sound p s
 unfolding imageFits
 sound-of p s e =
     let r = not (reserved p (s .pointer)) in
     let m = ltb (s .mode) 2 in
-    let b = ltb (s .bus) 8 in
+    let b = ltb (s .bus) 12 in
     let c = ltb (s .choice) 4 in
+    let d = identityFits (s .id) in
     let x = setsFit p (s .regs .sets) in
     let f = fileFits p (s .regs .file) in
     let k = interruptFits p s in
-    let o = and-right r (m && (b && (c && (x && (f && k))))) e in
-    let t = and-right m (b && (c && (x && (f && k)))) o in
-    let u = and-right b (c && (x && (f && k))) t in
-    let v = and-right c (x && (f && k)) u in
+    let o = and-right r (m && (b && (c && (d && (x && (f && k)))))) e in
+    let t = and-right m (b && (c && (d && (x && (f && k))))) o in
+    let u = and-right b (c && (d && (x && (f && k)))) t in
+    let i = and-right c (d && (x && (f && k))) u in
+    let v = and-right d (x && (f && k)) i in
+    let id = identity-of (s .id) (and-left d (x && (f && k)) i) in
     let y = and-right x (f && k) v in
-    let known = not-true (reserved p (s .pointer)) (and-left r (m && (b && (c && (x && (f && k))))) e) in
+    let known = not-true (reserved p (s .pointer)) (and-left r (m && (b && (c && (d && (x && (f && k)))))) e) in
     record {
       pointer-small = known-small p (s .pointer) known;
       pointer-known = known;
-      mode-small = ltb-true (s .mode) 2 (and-left m (b && (c && (x && (f && k)))) o);
-      bus-small = ltb-true (s .bus) 8 (and-left b (c && (x && (f && k))) t);
-      choice-small = ltb-true (s .choice) 4 (and-left c (x && (f && k)) u);
+      mode-small = ltb-true (s .mode) 2 (and-left m (b && (c && (d && (x && (f && k))))) o);
+      bus-small = ltb-true (s .bus) 12 (and-left b (c && (d && (x && (f && k)))) t);
+      choice-small = ltb-true (s .choice) 4 (and-left c (d && (x && (f && k))) u);
+      id-small = id .0;
+      place-small = id .1;
       within = within-of p (s .regs .sets) (and-left x (f && k) v);
       file-fits = and-left f k y;
       right = right-of p s (and-right f k y);

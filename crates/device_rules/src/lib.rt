@@ -19,6 +19,8 @@ pub struct Rest {
     pub status: u64,
     pub line: u8,
     pub mode: u8,
+    pub number: u64,
+    pub place: u8,
 }
 
 // The line, INT's level, where no status bit is 1.
@@ -51,3 +53,6 @@ pub const UNREADABLE: u8 = 7;
 
 // The last address choice.
 pub const LAST_CHOICE: u8 = 3;
+
+// The last number that a Device ID can be.
+pub const LAST_ID: u64 = 0xff_ffff;

@@ -9,14 +9,17 @@ ghost use Rattle.planner_promise.specs.Answer.{answerOf, Answers};
 ghost use Rattle.planner_promise.specs.Promise.{Promise};
 ghost use Rattle.host_words.specs.Host.{Told, Made, Seen, Shown, drivesOf, intOf, imageIn, FromImage, ToImage, plannedAs, countIn};
 ghost use Rattle.words_burst.specs.Burst.{Bursts};
+use device_rules::LAST_ID;
 use pins::Sets;
 use words::BUS;
 use words::CHOICE;
 use words::EDGE;
 use words::HELD;
+use words::ID;
 use words::LEVEL;
 use words::LINE;
 use words::MODE;
+use words::PLACE;
 use words::POINTER;
 use words::REFERENCE;
 use words::STATUS;
@@ -40,9 +43,9 @@ const LAST_CHOICE: u32 = 3;
 const LAST_NUMBER: u32 = 127;
 
 // A device of the part at power-on.
-fn power_on(words: &mut [u64; 28], part: u64, choice: u32, levels: u64) -> u32
+fn power_on(words: &mut [u64; 28], part: u64, choice: u32, levels: u64, number: u64) -> u32
     requires { ⌜ part < 2 ⌝ }
-    ensures { λ r. ⌜ Made part choice levels r (now (words .entry)) (now (words .exit)) ⌝ }
+    ensures { λ r. ⌜ Made part choice levels number r (now (words .entry)) (now (words .exit)) ⌝ }
 {
     if LAST_CHOICE < choice {
         return BAD_ARGUMENT;
@@ -50,7 +53,10 @@ fn power_on(words: &mut [u64; 28], part: u64, choice: u32, levels: u64) -> u32
     if map::pins_of(part) < levels {
         return BAD_ARGUMENT;
     }
-    words_device::power_on(words, part, (choice % 4) as u8, levels);
+    if LAST_ID < number {
+        return BAD_ARGUMENT;
+    }
+    words_device::power_on(words, part, (choice % 4) as u8, levels, number);
     DONE
 }
 
@@ -110,7 +116,7 @@ fn pack(
     part: u64,
     pins: &[u64; 4],
     registers: &[u8; 128],
-    rest: &[u64; 6],
+    rest: &[u64; 8],
 ) -> u32
     requires { ⌜ part < 2 ⌝ }
     ensures { λ r. ⌜ FromImage part (imageIn (now (pins .entry)) (now (registers .entry)) (now (rest .entry))) r (now (words .entry)) (now (words .exit)) ⌝ }
@@ -132,6 +138,8 @@ fn pack(
         rest[3],
         rest[4],
         rest[5],
+        rest[6],
+        rest[7],
     ) {
         return DONE;
     }
@@ -144,7 +152,7 @@ fn unpack(
     part: u64,
     pins: &mut [u64; 4],
     registers: &mut [u8; 128],
-    rest: &mut [u64; 6],
+    rest: &mut [u64; 8],
 ) -> u32
     ensures { λ r. ⌜ ToImage part (now (words .entry)) r (now (pins .entry)) (now (registers .entry)) (now (rest .entry))
         (now (pins .exit)) (now (registers .exit)) (now (rest .exit)) ⌝ }
@@ -161,16 +169,23 @@ fn unpack(
         words[STATUS],
         words[LINE],
         words[MODE],
+        words[ID],
+        words[PLACE],
     ];
     DONE
 }
 
 // The calls of the PCAL6524.
 #[no_mangle]
-pub extern "C" fn ghixramel_power_on(words: &mut [u64; 28], choice: u32, levels: u64) -> u32
-    ensures { λ r. ⌜ Made 0 choice levels r (now (words .entry)) (now (words .exit)) ⌝ }
+pub extern "C" fn ghixramel_power_on(
+    words: &mut [u64; 28],
+    choice: u32,
+    levels: u64,
+    number: u64,
+) -> u32
+    ensures { λ r. ⌜ Made 0 choice levels number r (now (words .entry)) (now (words .exit)) ⌝ }
 {
-    power_on(words, PCAL6524, choice, levels)
+    power_on(words, PCAL6524, choice, levels, number)
 }
 
 #[no_mangle]
@@ -211,7 +226,7 @@ pub extern "C" fn ghixramel_pack(
     words: &mut [u64; 28],
     pins: &[u64; 4],
     registers: &[u8; 128],
-    rest: &[u64; 6],
+    rest: &[u64; 8],
 ) -> u32
     ensures { λ r. ⌜ FromImage 0 (imageIn (now (pins .entry)) (now (registers .entry)) (now (rest .entry))) r (now (words .entry)) (now (words .exit)) ⌝ }
 {
@@ -223,7 +238,7 @@ pub extern "C" fn ghixramel_unpack(
     words: &[u64; 28],
     pins: &mut [u64; 4],
     registers: &mut [u8; 128],
-    rest: &mut [u64; 6],
+    rest: &mut [u64; 8],
 ) -> u32
     ensures { λ r. ⌜ ToImage 0 (now (words .entry)) r (now (pins .entry)) (now (registers .entry)) (now (rest .entry))
         (now (pins .exit)) (now (registers .exit)) (now (rest .exit)) ⌝ }
@@ -265,10 +280,15 @@ pub extern "C" fn ghixramel_plan(
 
 // And of its sister, the PCAL6534.
 #[no_mangle]
-pub extern "C" fn ghixramel34_power_on(words: &mut [u64; 28], choice: u32, levels: u64) -> u32
-    ensures { λ r. ⌜ Made 1 choice levels r (now (words .entry)) (now (words .exit)) ⌝ }
+pub extern "C" fn ghixramel34_power_on(
+    words: &mut [u64; 28],
+    choice: u32,
+    levels: u64,
+    number: u64,
+) -> u32
+    ensures { λ r. ⌜ Made 1 choice levels number r (now (words .entry)) (now (words .exit)) ⌝ }
 {
-    power_on(words, PCAL6534, choice, levels)
+    power_on(words, PCAL6534, choice, levels, number)
 }
 
 #[no_mangle]
@@ -309,7 +329,7 @@ pub extern "C" fn ghixramel34_pack(
     words: &mut [u64; 28],
     pins: &[u64; 4],
     registers: &[u8; 128],
-    rest: &[u64; 6],
+    rest: &[u64; 8],
 ) -> u32
     ensures { λ r. ⌜ FromImage 1 (imageIn (now (pins .entry)) (now (registers .entry)) (now (rest .entry))) r (now (words .entry)) (now (words .exit)) ⌝ }
 {
@@ -321,7 +341,7 @@ pub extern "C" fn ghixramel34_unpack(
     words: &[u64; 28],
     pins: &mut [u64; 4],
     registers: &mut [u8; 128],
-    rest: &mut [u64; 6],
+    rest: &mut [u64; 8],
 ) -> u32
     ensures { λ r. ⌜ ToImage 1 (now (words .entry)) r (now (pins .entry)) (now (registers .entry)) (now (rest .entry))
         (now (pins .exit)) (now (registers .exit)) (now (rest .exit)) ⌝ }

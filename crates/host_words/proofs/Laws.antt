@@ -9,7 +9,7 @@ use lib.ListN.{length, getD}
 use Rattle.bits.proofs.Decide.{clash}
 use Rattle.map.specs.Map.{Part, partOf, reserved}
 use Rattle.registers.specs.Registers.{core}
-use Rattle.device_rules.specs.Device.{State, Outcome, state, shownIn}
+use Rattle.device_rules.specs.Device.{State, Outcome, identity, state, shownIn}
 use Rattle.device_rules.specs.Answers.{refusalNumber}
 use Rattle.device_rules.specs.declared.Answer.{Answer}
 use Rattle.device_rules.specs.declared.Answer.the-variants.{Nothing, Ack, Nak, Byte, Refused}
@@ -56,13 +56,13 @@ module _ (c : ℕ) (w w' told told' : List ℕ) (kind arg number : ℕ) where
   }
 
 -- ---- a device that is made, or not
-pub made : (c choice levels : ℕ) (w w' : List ℕ) → 0 ≡ makingRefused (partOf c) choice levels → Packed c w' × (stateIn (partOf c) w' ≡ powerOn (partOf c) choice levels)
-    → Made c choice levels 0 w w'
-made c choice levels w w' e q =
-    record { refused = e; made = λ h. q; unchanged = λ h. clash (eqb (makingRefused (partOf c) choice levels) 0) (ap (λ (n : ℕ). eqb n 0) (sym e)) h }
+pub made : (c choice levels id : ℕ) (w w' : List ℕ) → 0 ≡ makingRefused (partOf c) choice levels id → Packed c w' × (stateIn (partOf c) w' ≡ powerOn (partOf c) choice levels id)
+    → Made c choice levels id 0 w w'
+made c choice levels id w w' e q =
+    record { refused = e; made = λ h. q; unchanged = λ h. clash (eqb (makingRefused (partOf c) choice levels id) 0) (ap (λ (n : ℕ). eqb n 0) (sym e)) h }
 
-pub not-made : (c choice levels : ℕ) (w : List ℕ) → 2 ≡ makingRefused (partOf c) choice levels → Made c choice levels 2 w w
-not-made c choice levels w e =
+pub not-made : (c choice levels id : ℕ) (w : List ℕ) → 2 ≡ makingRefused (partOf c) choice levels id → Made c choice levels id 2 w w
+not-made c choice levels id w e =
     record { refused = e; made = λ h. clash true refl (ap (λ (n : ℕ). eqb n 2) (e ∙ h)); unchanged = λ h. refl }
 
 -- ---- what can be seen
@@ -107,9 +107,9 @@ from-none c hc image w w' p = record { packed = λ h. clash (imageFits (partOf c
 module _ (c : ℕ) (w pins file rest : List ℕ) where
   pub to-image : (file' : List ℕ) → Packed c w → file' ≡ fileOf (partOf c) w
       → ToImage c w 0 pins file rest (getD w 0 0 ∷ getD w 1 0 ∷ getD w 2 0 ∷ getD w 3 0 ∷ []) file'
-      (getD w 21 0 ∷ getD w 22 0 ∷ getD w 23 0 ∷ getD w 19 0 ∷ getD w 20 0 ∷ getD w 24 0 ∷ [])
+      (getD w 21 0 ∷ getD w 22 0 ∷ getD w 23 0 ∷ getD w 19 0 ∷ getD w 20 0 ∷ getD w 24 0 ∷ getD w 25 0 ∷ getD w 26 0 ∷ [])
   to-image file' k e = record {
-    unpacked = λ k. (refl, ap (λ (f : List ℕ). state (core f (setsIn w)) (interruptIn w) (getD w 21 0) (getD w 24 0) (getD w 22 0) (getD w 23 0)) e);
+    unpacked = λ k. (refl, ap (λ (f : List ℕ). state (core f (setsIn w)) (interruptIn w) (getD w 21 0) (getD w 24 0) (getD w 22 0) (getD w 23 0) (identity (getD w 25 0) (getD w 26 0))) e);
     broken = λ z. absurd (z k);
   }
 

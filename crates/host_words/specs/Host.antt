@@ -8,7 +8,7 @@ use lib.ListN.{getD}
 use Rattle.map.specs.Map.{Part, partOf, reserved}
 use Rattle.registers.specs.Registers.{core, drivenLow, drivenHigh, intAsserted}
 use Rattle.registers.specs.Interrupt.{interrupt}
-use Rattle.device_rules.specs.Device.{State, Outcome, state, shownIn}
+use Rattle.device_rules.specs.Device.{State, Outcome, identity, state, shownIn}
 use Rattle.device_rules.specs.Answers.{answerKind, answerByte, refusalNumber}
 use Rattle.device_rules.specs.declared.Answer.{Answer}
 use Rattle.device_rules.specs.Refusals.{imageFits, stepped}
@@ -35,10 +35,10 @@ pub record Told (c : ℕ) (w : List ℕ) (kind arg number : ℕ) (w' told told' 
   pub unchanged : eqb number 0 ≡ false → (w' ≡ w) × (told' ≡ told)
 
 -- making a device: refused, the words as they were
-pub record Made (c choice levels number : ℕ) (w w' : List ℕ) : Type 0 where
-  pub refused : number ≡ makingRefused (partOf c) choice levels
-  pub made : makingRefused (partOf c) choice levels ≡ 0 → Packed c w' × (stateIn (partOf c) w' ≡ powerOn (partOf c) choice levels)
-  pub unchanged : eqb (makingRefused (partOf c) choice levels) 0 ≡ false → w' ≡ w
+pub record Made (c choice levels id number : ℕ) (w w' : List ℕ) : Type 0 where
+  pub refused : number ≡ makingRefused (partOf c) choice levels id
+  pub made : makingRefused (partOf c) choice levels id ≡ 0 → Packed c w' × (stateIn (partOf c) w' ≡ powerOn (partOf c) choice levels id)
+  pub unchanged : eqb (makingRefused (partOf c) choice levels id) 0 ≡ false → w' ≡ w
 
 -- what can be seen of a device: 3 if it is broken, and then what was lent for it stays as it was
 pub record Seen (c : ℕ) (w : List ℕ) (value : Part → State → List ℕ) (number : ℕ) (lent lent' : List ℕ) : Type 0 where
@@ -58,11 +58,11 @@ pub record Shown (c : ℕ) (w : List ℕ) (n number : ℕ) (lent lent' : List �
       → (number ≡ cond (reserved (partOf c) n) 2 0) × (lent' ≡ cond (reserved (partOf c) n) lent (shownIn (partOf c) (stateIn (partOf c) w) n ∷ []))
   pub broken : (Packed c w → ⊥) → (number ≡ 3) × (lent' ≡ lent)
 
--- ---- images: the pin sets in the order level, reference, held, edge; the registers; pointer, bus state, address choice, status, line, mode
+-- ---- images: the pin sets in the order level, reference, held, edge; the registers; pointer, bus state, address choice, status, line, mode, the Device ID's number and place
 abbrev pub imageIn : (pins file rest : List ℕ) → State
 imageIn pins file rest =
     state (core file (record { level = getD pins 0 0; reference = getD pins 1 0; held = getD pins 2 0; edge = getD pins 3 0 }))
-    (interrupt (getD rest 3 0) (getD rest 4 0)) (getD rest 0 0) (getD rest 5 0) (getD rest 1 0) (getD rest 2 0)
+    (interrupt (getD rest 3 0) (getD rest 4 0)) (getD rest 0 0) (getD rest 5 0) (getD rest 1 0) (getD rest 2 0) (identity (getD rest 6 0) (getD rest 7 0))
 
 -- an image to words: 3 if it may not stand, and then the words stay
 pub record FromImage (c : ℕ) (image : State) (number : ℕ) (w w' : List ℕ) : Type 0 where

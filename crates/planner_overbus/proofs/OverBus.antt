@@ -21,7 +21,7 @@ use Rattle.device_demands.specs.Run.{Asked, after, answers}
 use Rattle.device_demands.specs.Transactions.{rightly, START, sent, toWrite, numberIn, modeIn, writeOver, writtenFrom}
 use Rattle.device_demands.proofs.Lawful.{Lawful}
 use Rattle.device_demands.proofs.Keeps.{WellFormed, run-keeps}
-use Rattle.device_demands.proofs.Transacting.{on, ended, start, to-write, filling, command, fills, data-byte, bus-writes, bus-writes-answers, clear-number, clear-mode}
+use Rattle.device_demands.proofs.Transacting.{on, ended, ready, opened, start, to-write, filling, command, fills, data-byte, bus-writes, bus-writes-answers, clear-number, clear-mode}
 use Rattle.planner_quiet.specs.Settings.{Settings, Write}
 use Rattle.planner_quiet.specs.Quiet.{Still, Quiet, Formed, writes, afterFirst, isPlanned, Listed, settingsOf, driveAt, inputAt, statusAt}
 use Rattle.planner_overbus.specs.OverBus.{overBus, afterEvents, allTaken, QuietOverBus}
@@ -70,7 +70,7 @@ module _ (p : Part) (law : Lawful p) (ok : Plannable p) where
     small = let l = known-small p n known in omega arith
 
     over-it : after p s (writeOver (s .choice) n (w .value))
-        ≡ rightly p (writtenFrom p (modeIn n) (s .regs) (numberIn n) (w .value ∷ [])) (walked p (modeIn n) (numberIn n) 1) (modeIn n) (numberOf Idle) (s .choice)
+        ≡ rightly p (writtenFrom p (modeIn n) (s .regs) (numberIn n) (w .value ∷ [])) (walked p (modeIn n) (numberIn n) 1) (modeIn n) (numberOf Idle) (s .choice) (s .id)
     over-it = bus-writes p law s g n small commanded (w .value ∷ []) (v, tt)
 
     pub kept : WellFormed p next
@@ -107,17 +107,17 @@ module _ (p : Part) (law : Lawful p) (ok : Plannable p) where
     at-1 = ap (λ (x : State). x .regs) (on p s START [] _ (start p law s g) ∙ ended p _)
 
     pub at-2 : first 2 ≡ s .regs
-    at-2 = ap (λ (x : State). x .regs) (on p s START _ _ (start p law s g) ∙ on p (goes s Opened) (toWrite (s .choice)) [] _ (to-write p law s g) ∙ ended p _)
+    at-2 = ap (λ (x : State). x .regs) (on p s START _ _ (start p law s g) ∙ on p (opened s) (toWrite (s .choice)) [] _ (to-write p law s g) ∙ ended p _)
 
     pub at-3 : first 3 ≡ s .regs
     at-3 =
         ap (λ (x : State). x .regs)
-        (on p s START _ _ (start p law s g) ∙ on p (goes s Opened) (toWrite (s .choice)) _ _ (to-write p law s g) ∙ on p (goes s Chosen) (sent (w .register)) [] _ (command p law s g n small commanded) ∙ ended p _)
+        (on p s START _ _ (start p law s g) ∙ on p (opened s) (toWrite (s .choice)) _ _ (to-write p law s g) ∙ on p (goes s Chosen) (sent (w .register)) [] _ (command p law s g n small commanded) ∙ ended p _)
 
     pub at-4 : first 4 ≡ written p (s .regs) (w .register) (w .value)
     at-4 =
         ap (λ (x : State). x .regs)
-        (on p s START _ _ (start p law s g) ∙ on p (goes s Opened) (toWrite (s .choice)) _ _ (to-write p law s g) ∙ on p (goes s Chosen) (sent (w .register)) _ _ (command p law s g n small commanded)
+        (on p s START _ _ (start p law s g) ∙ on p (opened s) (toWrite (s .choice)) _ _ (to-write p law s g) ∙ on p (goes s Chosen) (sent (w .register)) _ _ (command p law s g n small commanded)
         ∙ on p (filling p law s g (w .register)) (sent (w .value)) [] _ (data-byte p law (filling p law s g (w .register)) (fills p law s g n small commanded) refl (w .value) v) ∙ ended p _)
         ∙ ap (λ (k : ℕ). written p (s .regs) k (w .value)) number
 

@@ -7,7 +7,7 @@ use lib.ListN.{getD, set, length}
 use Rattle.bits.specs.Bits.{val}
 use Rattle.map.specs.Map.{Part, part24, part34, entries}
 use Rattle.registers.specs.Registers.{core, drivenLow, drivenHigh, intAsserted}
-use Rattle.device_rules.specs.Device.{State, Outcome, state, out}
+use Rattle.device_rules.specs.Device.{State, Outcome, identity, state, out}
 use Rattle.device_rules.specs.Refusals.{stepped}
 use Rattle.device_rules.specs.Answers.{answerKind, answerByte, refusalNumber}
 use Rattle.device_rules.specs.declared.Answer.the-variants.{Nothing}
@@ -16,13 +16,13 @@ use Rattle.device_demands.specs.Run.{Asked}
 use Rattle.planner_quiet.specs.Settings.{Settings}
 use Rattle.planner_promise.specs.Answer.{Answer, answerOf}
 use Rattle.planner_promise.specs.Answer.Answer.{refuse, give}
-use Rattle.device_demands.specs.Transactions.{ask, START, STOP, sent, toWrite, writeAllOver, writeOver, readOver, readOn, readAllOver}
+use Rattle.device_demands.specs.Transactions.{ask, START, STOP, sent, fetch, toWrite, writeAllOver, writeOver, readOver, readOn, readAllOver}
 
 pub data Case : Type 0 where
-  -- events on a device of the part from power-on at address choice 0 with all levels 0; one looks at the last outcome
+  -- events on a device of the part from power-on at address choice 0 with all levels 0 and the Device ID 123456h; one looks at the last outcome
   case : Part → List Asked → (Part → Outcome → ℕ) → (seen : ℕ) → Case
-  -- a device of the part is made with these levels; one looks at the refusal
-  made : Part → (levels : ℕ) → (refusal : ℕ) → Case
+  -- a device of the part is made with these levels and this Device ID; one looks at the refusal
+  made : Part → (levels id : ℕ) → (refusal : ℕ) → Case
   -- an image of the part at power-on, changed, is asked a START; one looks at the refusal
   image : Part → (State → State) → (refusal : ℕ) → Case
   -- a start, a goal and a buffer of so many bytes; one looks at the answer of the part's planner
@@ -34,9 +34,9 @@ last p o [] = o
 last p o (e ∷ es) = last p (stepped p (o .after) (e .kind) (e .arg)) es
 
 abbrev pub holds : Case → Bool
-holds (case p events look seen) = eqb (look p (last p (out Nothing (powerOn p 0 0)) events)) seen
-holds (made p levels refusal) = eqb (makingRefused p 0 levels) refusal
-holds (image p change refusal) = eqb (refusalNumber (stepped p (change (powerOn p 0 0)) 0 0 .answer)) refusal
+holds (case p events look seen) = eqb (look p (last p (out Nothing (powerOn p 0 0 0x123456)) events)) seen
+holds (made p levels id refusal) = eqb (makingRefused p 0 levels id) refusal
+holds (image p change refusal) = eqb (refusalNumber (stepped p (change (powerOn p 0 0 0x123456)) 0 0 .answer)) refusal
 holds (planned p start goal room look seen) = eqb (look (answerOf p start goal room)) seen
 
 abbrev pub all : List Case → Bool
@@ -89,11 +89,25 @@ registerIs n p o = getD (o .after .regs .file) n 0
 
 -- an image whose register n holds v, and one whose levels are l
 abbrev pub holding : (n v : ℕ) → State → State
-holding n v s = state (core (set (s .regs .file) n v) (s .regs .sets)) (s .interrupt) (s .pointer) (s .mode) (s .bus) (s .choice)
+holding n v s = state (core (set (s .regs .file) n v) (s .regs .sets)) (s .interrupt) (s .pointer) (s .mode) (s .bus) (s .choice) (s .id)
 
 abbrev pub levelled : (l : ℕ) → State → State
 levelled l s =
-    state (core (s .regs .file) (record { level = l; reference = l; held = 0; edge = 0 })) (s .interrupt) (s .pointer) (s .mode) (s .bus) (s .choice)
+    state (core (s .regs .file) (record { level = l; reference = l; held = 0; edge = 0 })) (s .interrupt) (s .pointer) (s .mode) (s .bus) (s .choice) (s .id)
+
+-- an image in the bus state b, and one with another Device ID
+abbrev pub inBus : (b : ℕ) → State → State
+inBus b s = state (s .regs) (s .interrupt) (s .pointer) (s .mode) b (s .choice) (s .id)
+
+abbrev pub identifiedBy : (number place : ℕ) → State → State
+identifiedBy number place s = state (s .regs) (s .interrupt) (s .pointer) (s .mode) (s .bus) (s .choice) (identity number place)
+
+-- the question for the Device ID up to START again, and up to the question to tell
+abbrev pub named : List Asked
+named = START ∷ sent 0xf8 ∷ sent 0x40 ∷ START ∷ []
+
+abbrev pub telling : List Asked
+telling = named ++ (sent 0xf9 ∷ [])
 
 -- the number of the planner's refusal, 0 where a plan is given; and the number of its writes
 abbrev pub refusalIs : Answer → ℕ
@@ -201,6 +215,43 @@ cases =
     ∷ case part24 (walkedFrom 0x02 ++ steppedFrom 0x02) modeIs 0
     ∷ case part24 (walkedFrom 0x02 ++ (ask 5 0 ∷ [])) modeIs 0
     ∷ case part24 (walkedFrom 0x02 ++ (START ∷ sent 0x00 ∷ sent 0x06 ∷ STOP ∷ [])) modeIs 0
+    -- the Device ID 123456h: F8h, our byte and, after the repeated START, F9h are acknowledged; its bytes, the highest first, and round again
+    ∷ case part24 (START ∷ sent 0xf8 ∷ []) answerIs 1
+    ∷ case part24 (START ∷ sent 0xf8 ∷ sent 0x40 ∷ []) answerIs 1
+    ∷ case part24 (START ∷ sent 0xf8 ∷ sent 0x41 ∷ []) answerIs 1
+    ∷ case part24 telling answerIs 1
+    ∷ case part24 (telling ++ (fetch true ∷ [])) byteIs 0x12
+    ∷ case part24 (telling ++ (fetch true ∷ fetch true ∷ [])) byteIs 0x34
+    ∷ case part24 (telling ++ (fetch true ∷ fetch true ∷ fetch true ∷ [])) byteIs 0x56
+    ∷ case part24 (telling ++ (fetch true ∷ fetch true ∷ fetch true ∷ fetch true ∷ [])) byteIs 0x12
+    ∷ case part34 (telling ++ (fetch true ∷ fetch true ∷ [])) byteIs 0x34
+    -- a fetch without acknowledge ends it, and so does a byte
+    ∷ case part24 (telling ++ (fetch false ∷ fetch true ∷ [])) byteIs 0xff
+    ∷ case part24 (telling ++ (sent 0x40 ∷ fetch true ∷ [])) byteIs 0xff
+    -- another device's byte, F9h first, F9h without START again: no acknowledge
+    ∷ case part24 (START ∷ sent 0xf8 ∷ sent 0x42 ∷ []) answerIs 2
+    ∷ case part24 (START ∷ sent 0xf9 ∷ []) answerIs 2
+    ∷ case part24 (START ∷ sent 0xf8 ∷ sent 0x40 ∷ sent 0xf9 ∷ []) answerIs 2
+    -- STOP spoils it, a second START again does not; in Telling START is a first one
+    ∷ case part24 (START ∷ sent 0xf8 ∷ sent 0x40 ∷ STOP ∷ START ∷ sent 0xf9 ∷ []) answerIs 2
+    ∷ case part24 (named ++ (START ∷ sent 0xf9 ∷ [])) answerIs 1
+    ∷ case part24 (telling ++ (START ∷ sent 0xf9 ∷ [])) answerIs 2
+    -- after START again any other byte is an address byte
+    ∷ case part24 (named ++ (sent 0x40 ∷ sent 0x04 ∷ sent 0x00 ∷ [])) (registerIs 0x04) 0x00
+    -- each telling begins at the first byte; each reset keeps the number; the pointer stays
+    ∷ case part24 (telling ++ (fetch true ∷ STOP ∷ telling) ++ (fetch true ∷ [])) byteIs 0x12
+    ∷ case part24 (ask 5 0 ∷ telling ++ (fetch true ∷ [])) byteIs 0x12
+    ∷ case part24 (START ∷ sent 0x00 ∷ sent 0x06 ∷ STOP ∷ telling ++ (fetch true ∷ [])) byteIs 0x12
+    ∷ case part24 (steppedFrom 0x04 ++ (telling ++ (fetch true ∷ []))) pointerIs 0x05
+    -- a Device ID of 24 bits passes, one of 25 is refused with 2; in an image it is broken, and so are a bus state over 11 and a place over 2
+    ∷ made part24 0 0xff_ffff 0
+    ∷ made part24 0 0x100_0000 2
+    ∷ made part34 0 0x100_0000 2
+    ∷ image part24 (identifiedBy 0xff_ffff 2) 0
+    ∷ image part24 (identifiedBy 0x100_0000 0) 3
+    ∷ image part24 (identifiedBy 0 3) 3
+    ∷ image part24 (inBus 11) 0
+    ∷ image part24 (inBus 12) 3
     -- the sister over the whole map: after 13 comes 30, after 5C 5E, after 6F 00
     ∷ case part34 (walkedFrom 0x13) pointerIs 0x30
     ∷ case part34 (walkedFrom 0x5c) pointerIs 0x5e
@@ -245,9 +296,9 @@ cases =
     ∷ case part34 (levels 0x4_0000_0000 ∷ []) refusedIs 2
     ∷ case part24 (levels 0xff_ffff ∷ []) refusedIs 0
     ∷ case part24 (levels 0x100_0000 ∷ []) refusedIs 2
-    ∷ made part34 0x3_ffff_ffff 0
-    ∷ made part34 0x4_0000_0000 2
-    ∷ made part24 0x100_0000 2
+    ∷ made part34 0x3_ffff_ffff 0 0
+    ∷ made part34 0x4_0000_0000 0 2
+    ∷ made part24 0x100_0000 0 2
     -- an image with a bit that does not exist, or a pin that does not, is broken
     ∷ image part34 (holding 0x13 0x03) 0
     ∷ image part34 (holding 0x13 0x07) 3

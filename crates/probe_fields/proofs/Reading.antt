@@ -16,15 +16,15 @@ use Rattle.text.proofs.Laws.{field-small}
 use Rattle.probe_fields.specs.Fields.{form, hasForm, lineForm, readable, numberAt, bytesAt}
 
 -- ---- tabs and digits at their places
-pub form-long : length lineForm ≡ 382
+pub form-long : length lineForm ≡ 394
 unfolding form
 form-long = refl
 
-pub tab-places : (i : ℕ) → i < 382
-    → ((((((((((((eqb i 256) || eqb i 273) || eqb i 290) || eqb i 307) || eqb i 324) || eqb i 327) || eqb i 330) || eqb i 333) || eqb i 350) || eqb i 353) || eqb i 356) || eqb i 365)
+pub tab-places : (i : ℕ) → i < 394
+    → ((((((((((((((eqb i 256) || eqb i 273) || eqb i 290) || eqb i 307) || eqb i 324) || eqb i 327) || eqb i 330) || eqb i 333) || eqb i 350) || eqb i 353) || eqb i 356) || eqb i 365) || eqb i 368) || eqb i 377)
     ≡ getD lineForm i false
 unfolding form
-tab-places = decide-below Bool Bool·beq beq→eq 382 _ _ tt
+tab-places = decide-below Bool Bool·beq beq→eq 394 _ _ tt
 
 form-length : (ts : List Bool) (line : List ℕ) → hasForm ts line ≡ true → length line ≡ length ts
 unfolding hasForm
@@ -33,17 +33,17 @@ form-length [] (b ∷ line) e = clash false e refl
 form-length (t ∷ ts) [] e = clash false e refl
 form-length (t ∷ ts) (b ∷ line) e = ap suc (form-length ts line (and-right (cond t (eqb b 0x09) (ltb (digitOf b) 16)) (hasForm ts line) e))
 
-pub readable-long : (line : List ℕ) → readable line ≡ true → length line ≡ 382
+pub readable-long : (line : List ℕ) → readable line ≡ true → length line ≡ 394
 readable-long line e = form-length lineForm line e ∙ form-long
 
-pub other-length : (line : List ℕ) → (length line ≡ 382 → ⊥) → readable line ≡ false
+pub other-length : (line : List ℕ) → (length line ≡ 394 → ⊥) → readable line ≡ false
 other-length line h = go (readable line) refl
   where
     go : (t : Bool) → readable line ≡ t → t ≡ false
     go true e = absurd (h (readable-long line e))
     go false e = refl
 
-module _ (line : List ℕ) (i : ℕ) (inside : i < 382) (all : length line ≡ 382) {tab fits : Bool} (place : tab ≡ getD lineForm i false)
+module _ (line : List ℕ) (i : ℕ) (inside : i < 394) (all : length line ≡ 394) {tab fits : Bool} (place : tab ≡ getD lineForm i false)
     (byte : fits ≡ cond tab (eqb (getD line i 0) 0x09) (ltb (digitOf (getD line i 0)) 16)) where
   here : hasForm (drop i lineForm) (drop i line) ≡ (fits && hasForm (drop (suc i) lineForm) (drop (suc i) line))
   unfolding hasForm
@@ -58,9 +58,9 @@ module _ (line : List ℕ) (i : ℕ) (inside : i < 382) (all : length line ≡ 3
   pub form-on : fits ≡ true → hasForm (drop i lineForm) (drop i line) ≡ hasForm (drop (i + 1) lineForm) (drop (i + 1) line)
   form-on e = rw (add-one i, here, e)
 
-pub form-done : (line : List ℕ) → length line ≡ 382 → hasForm (drop 382 lineForm) (drop 382 line) ≡ true
+pub form-done : (line : List ℕ) → length line ≡ 394 → hasForm (drop 394 lineForm) (drop 394 line) ≡ true
 unfolding hasForm
-form-done line all = rw (drop-of-length-le lineForm {i = 382} (omega (arith, form-long)), drop-of-length-le line {i = 382} (omega (arith, all)))
+form-done line all = rw (drop-of-length-le lineForm {i = 394} (omega (arith, form-long)), drop-of-length-le line {i = 394} (omega (arith, all)))
 
 -- ---- numbers
 module _ (line : List ℕ) (at width most : ℕ) (full : most ≡ 16 ^ width - 1) {d : Digits} (read : d ≡ fieldOf width most (take (at + width - at) (drop at line))) where

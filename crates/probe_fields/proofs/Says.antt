@@ -53,10 +53,10 @@ digits-say (b ∷ s) n all =
     let most : (16 * n + digitOf b + 1) * 16 ^ length s ≤ (n + 1) * 16 * 16 ^ length s = mul-le-mul-right (16 ^ length s) (omega arith) in
     rw (lt-ltb (digitOf b) 16 d) (later .0, lt-of-lt-of-le (later .1) (rw (pow-succ' 16 (length s), ← mul-assoc (n + 1) 16 (16 ^ length s)) most))
 
-field-fits : (k : ℕ) → k < 13 → leb (sum (take k widths) + k + getD widths k 0) 382 ≡ true
-field-fits = decide-below Bool Bool·beq beq→eq 13 _ _ tt
+field-fits : (k : ℕ) → k < 15 → leb (sum (take k widths) + k + getD widths k 0) 394 ≡ true
+field-fits = decide-below Bool Bool·beq beq→eq 15 _ _ tt
 
-digit-stands : (k : ℕ) → k < 13 → (i : ℕ) → i < getD widths k 0 → getD lineForm (sum (take k widths) + k + i) false ≡ false
+digit-stands : (k : ℕ) → k < 15 → (i : ℕ) → i < getD widths k 0 → getD lineForm (sum (take k widths) + k + i) false ≡ false
 digit-stands k h i l =
     let j : ℕ = sum (take k widths) + k + i in
     let e : 1 + j ≡ suc j = omega arith in
@@ -64,7 +64,7 @@ digit-stands k h i l =
 
 module _ (line : List ℕ) (read : readable line ≡ true) where
   -- so many digits from a place on, where digits stand
-  pub digits-number : (at width : ℕ) → at + width ≤ 382 → ((i : ℕ) → i < width → getD lineForm (at + i) false ≡ false)
+  pub digits-number : (at width : ℕ) → at + width ≤ 394 → ((i : ℕ) → i < width → getD lineForm (at + i) false ≡ false)
       → fieldOf width (16 ^ width - 1) (take width (drop at line)) ≡ Number (numberAt line at width)
   digits-number at width fits stand = said ∙ ap (λ (d : Digits). Number (valueOf d)) (sym said)
     where
@@ -88,9 +88,9 @@ module _ (line : List ℕ) (read : readable line ≡ true) where
       said = sym (field-read width (16 ^ width - 1) s long (digits-say s 0 all .0) (omega (arith, small)))
 
   -- the theorem: every field says its number
-  pub field-says : (k : ℕ) → k < 13 → fieldOf (getD widths k 0) (16 ^ getD widths k 0 - 1) (take (getD widths k 0) (drop (sum (take k widths) + k) line)) ≡ Number (numberIn line k)
+  pub field-says : (k : ℕ) → k < 15 → fieldOf (getD widths k 0) (16 ^ getD widths k 0 - 1) (take (getD widths k 0) (drop (sum (take k widths) + k) line)) ≡ Number (numberIn line k)
   field-says k h =
-      digits-number (sum (take k widths) + k) (getD widths k 0) (leb-true (sum (take k widths) + k + getD widths k 0) 382 (field-fits k h)) (λ i l. digit-stands k h i l)
+      digits-number (sum (take k widths) + k) (getD widths k 0) (leb-true (sum (take k widths) + k + getD widths k 0) 394 (field-fits k h)) (λ i l. digit-stands k h i l)
 
   -- and so does every register
   pub register-says : (n : ℕ) → n < 128 → fieldOf 2 (16 ^ 2 - 1) (take 2 (drop (2 * n) line)) ≡ Number (numberAt line (2 * n) 2)

@@ -59,9 +59,9 @@ pub interrupt-text : (s l : ℕ) → field 16 s ++ field 2 l ≡ fieldsText (tak
 unfolding fieldsText
 interrupt-text s l = rw (append-nil (hexText 2 l))
 
-pub mode-text : (m : ℕ) → field 2 m ≡ fieldsText (drop 10 widths) (m ∷ [])
+pub last-text : (m n p : ℕ) → field 2 m ++ (field 8 n ++ field 2 p) ≡ fieldsText (drop 10 widths) (m ∷ n ∷ p ∷ [])
 unfolding fieldsText
-mode-text m = rw (append-nil (hexText 2 m))
+last-text m n p = rw (append-nil (hexText 2 p))
 
 -- fields after fields
 pub fields-both : (ws ns vs ms : List ℕ) → length ws ≡ length ns → fieldsText ws ns ++ fieldsText vs ms ≡ fieldsText (ws ++ vs) (ns ++ ms)

@@ -8,9 +8,9 @@ use Rattle.text.specs.declared.Digits.{Digits}
 use Rattle.text.specs.declared.Digits.the-variants.{Number, None}
 use Rattle.text.specs.Text.{digitOf, fieldOf, hexText}
 
--- the digits of each field: registers; level, reference, held, edge; pointer, bus state, address choice; status, line; mode; an event's kind and argument
+-- the digits of each field: registers; level, reference, held, edge; pointer, bus state, address choice; status, line; mode; the Device ID's number and place; an event's kind and argument
 abbrev pub widths : List ℕ
-widths = 256 ∷ 16 ∷ 16 ∷ 16 ∷ 16 ∷ 2 ∷ 2 ∷ 2 ∷ 16 ∷ 2 ∷ 2 ∷ 8 ∷ 16 ∷ []
+widths = 256 ∷ 16 ∷ 16 ∷ 16 ∷ 16 ∷ 2 ∷ 2 ∷ 2 ∷ 16 ∷ 2 ∷ 2 ∷ 8 ∷ 2 ∷ 8 ∷ 16 ∷ []
 
 -- the bytes of fields by their places, true for a tab and false for a digit: a tab, the first field's digits, a tab, and so on
 unfoldable pub form : List ℕ → List Bool

@@ -6,7 +6,7 @@ ghost use Prim.Native.Nat.{_+_, _-_, _^_, _<_, _≤_};
 ghost use lib.Dec.{eqb, ltb};
 ghost use lib.ListN.{length, getD, take, drop};
 ghost use Rattle.text.specs.Text.{digitOf, hexText, Wrote};
-ghost use Rattle.probe_fields.specs.Fields.{lineForm, readable, numberAt, numberIn, bytesAt, widths, bytesText, fieldsText};
+ghost use Rattle.probe_fields.specs.Fields.{lineForm, readable, numberAt, bytesAt, widths, bytesText, fieldsText};
 ghost use mathlib.Core.List.{[], _∷_};
 use text::Digits;
 
@@ -31,13 +31,17 @@ pub const LINE_AT: usize = 351;
 
 pub const MODE_AT: usize = 354;
 
-pub const KIND_AT: usize = 357;
+pub const NUMBER_AT: usize = 357;
 
-pub const ARGUMENT_AT: usize = 366;
+pub const PLACE_AT: usize = 366;
+
+pub const KIND_AT: usize = 369;
+
+pub const ARGUMENT_AT: usize = 378;
 
 // Whether a tab stands at this place of a line.
 fn is_tab(i: usize) -> bool
-    requires { ⌜ i < 382 ⌝ }
+    requires { ⌜ i < 394 ⌝ }
     ensures { λ r. ⌜ r ≡ getD lineForm i false ⌝ }
 {
     (i == 256)
@@ -52,6 +56,8 @@ fn is_tab(i: usize) -> bool
         | (i == 353)
         | (i == 356)
         | (i == 365)
+        | (i == 368)
+        | (i == 377)
 }
 
 // Whether the byte is a tab, or a digit.
@@ -68,11 +74,11 @@ fn byte_fits(tab: bool, b: u8) -> bool
 pub fn is_readable(line: &[u8]) -> bool
     ensures { λ r. ⌜ r ≡ readable (now (line .entry)) ⌝ }
 {
-    if line.len() != 382 {
+    if line.len() != 394 {
         return false;
     }
     let mut i = 0;
-    while i < 382 {
+    while i < 394 {
         if !byte_fits(is_tab(i), line[i]) {
             return false;
         }
@@ -110,17 +116,17 @@ pub fn word_at(line: &[u8], at: usize) -> u64
     number_at(line, at, 16, u64::MAX)
 }
 
-// An event's kind.
-pub fn kind_in(line: &[u8]) -> u32
-    requires { ⌜ length (now line) ≡ 382 ⌝ }
-    ensures { λ r. ⌜ r ≡ numberIn (now (line .entry)) 11 ⌝ }
+// Eight digits.
+pub fn half_at(line: &[u8], at: usize) -> u32
+    requires { ⌜ at + 8 ≤ length (now line) ⌝ }
+    ensures { λ r. ⌜ r ≡ numberAt (now (line .entry)) at 8 ⌝ }
 {
-    number_at(line, KIND_AT, 8, 0xffff_ffff) as u32
+    number_at(line, at, 8, 0xffff_ffff) as u32
 }
 
 // The registers.
 pub fn file_in(line: &[u8]) -> [u8; 128]
-    requires { ⌜ length (now line) ≡ 382 ⌝ }
+    requires { ⌜ length (now line) ≡ 394 ⌝ }
     ensures { λ r. ⌜ r ≡ bytesAt (now (line .entry)) 0 128 ⌝ }
 {
     let mut file = [0u8; 128];
@@ -190,10 +196,12 @@ pub fn put_interrupt(out: &mut [u8], at: usize, status: u64, line: u8) -> usize
     put_field(out, first, 2, line as u64)
 }
 
-// The pointer's mode.
-pub fn put_mode(out: &mut [u8], at: usize, mode: u8) -> usize
-    requires { ⌜ at + 3 ≤ length (now out) ⌝ }
-    ensures { λ r. ⌜ Wrote (now (out .entry)) at (fieldsText (drop 10 widths) (mode ∷ [])) r (now (out .exit)) × (r ≡ at + 3) ⌝ }
+// The pointer's mode, and the Device ID: its number, and the place of its byte that is told next.
+pub fn put_last(out: &mut [u8], at: usize, mode: u8, number: u64, place: u8) -> usize
+    requires { ⌜ at + 15 ≤ length (now out) ⌝ }
+    ensures { λ r. ⌜ Wrote (now (out .entry)) at (fieldsText (drop 10 widths) (mode ∷ number ∷ place ∷ [])) r (now (out .exit)) × (r ≡ at + 15) ⌝ }
 {
-    put_field(out, at, 2, mode as u64)
+    let first = put_field(out, at, 2, mode as u64);
+    let second = put_field(out, first, 8, number);
+    put_field(out, second, 2, place as u64)
 }

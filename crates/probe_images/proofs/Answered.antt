@@ -1,4 +1,4 @@
--- Of a line that has begun 383 bytes say as much as all of it, and a step that is not refused leaves an image that fits. Assumes nothing.
+-- Of a line that has begun 395 bytes say as much as all of it, and a step that is not refused leaves an image that fits. Assumes nothing.
 use mathlib.Core.Path.{_≡_, refl, sym, ap, _∙_}
 use mathlib.Core.Bool.{Bool, true, false, _&&_}
 use mathlib.Core.List.{List, _++_}
@@ -28,23 +28,23 @@ use Rattle.probe_images.specs.Asked.{Answers}
 use Rattle.probe_images.specs.Begun.{Holds}
 use Rattle.probe_images.specs.Images.{imageIn, kindIn, argumentIn, probeText}
 
--- of a line over 382 bytes the first 383 say as much as all of it
-probe-take : (p : Part) (text : List ℕ) → probeText p (take 383 text) ≡ probeText p text
+-- of a line over 394 bytes the first 395 say as much as all of it
+probe-take : (p : Part) (text : List ℕ) → probeText p (take 395 text) ≡ probeText p text
 unfolding probeText
-probe-take p text = go (ltb 382 (length text)) refl
+probe-take p text = go (ltb 394 (length text)) refl
   where
-    go : (t : Bool) → ltb 382 (length text) ≡ t → probeText p (take 383 text) ≡ probeText p text
+    go : (t : Bool) → ltb 394 (length text) ≡ t → probeText p (take 395 text) ≡ probeText p text
     go true e =
-        let l : 382 < length text = ltb-true 382 (length text) e in
-        rw (other-length text (λ q. omega arith), other-length (take 383 text) (λ q. omega (arith, length-take-le 383 text (omega arith))))
-    go false e = let l : length text ≤ 382 = ltb-false 382 (length text) e in ap (probeText p) (take-all 383 text (omega arith))
+        let l : 394 < length text = ltb-true 394 (length text) e in
+        rw (other-length text (λ q. omega arith), other-length (take 395 text) (λ q. omega (arith, length-take-le 395 text (omega arith))))
+    go false e = let l : length text ≤ 394 = ltb-false 394 (length text) e in ap (probeText p) (take-all 395 text (omega arith))
 
-pub grown-holds : (line : Line) {part left : List ℕ} {end : ℕ} → length (line .held) ≡ 383 → Kept (line .held) (line .len) part end left
-    → (end ≤ 383) × ((text : List ℕ) → Holds line text → Holds (record { held = left; len = end }) (text ++ part))
+pub grown-holds : (line : Line) {part left : List ℕ} {end : ℕ} → length (line .held) ≡ 395 → Kept (line .held) (line .len) part end left
+    → (end ≤ 395) × ((text : List ℕ) → Holds line text → Holds (record { held = left; len = end }) (text ++ part))
 grown-holds line {part} all k =
-    let kept = kept-most 383 all k in (
+    let kept = kept-most 395 all k in (
       kept .1,
-      λ text h. record { small = kept .1; kept = kept .0 ∙ ap (λ (x : List ℕ). take 383 (x ++ part)) (h .kept) ∙ take-again 383 text part },
+      λ text h. record { small = kept .1; kept = kept .0 ∙ ap (λ (x : List ℕ). take 395 (x ++ part)) (h .kept) ∙ take-again 395 text part },
     )
 
 pub held-answer : (p : Part) (line : Line) {out left : List ℕ} {at end : ℕ} → Wrote out at (probeText p (take (line .len - 0) (line .held))) end left

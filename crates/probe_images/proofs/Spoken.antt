@@ -7,7 +7,7 @@ use Rattle.text_answers.specs.Answers.{refusedLine}
 use Rattle.map.specs.Map.{partOf}
 use Rattle.registers.specs.Registers.{core}
 use Rattle.registers.specs.Interrupt.{interrupt}
-use Rattle.device_rules.specs.Device.{state, out}
+use Rattle.device_rules.specs.Device.{identity, state, out}
 use Rattle.device_rules.specs.Refusals.{stepped}
 use Rattle.probe_fields.specs.Fields.{readable, bytesAt, numberIn}
 use Rattle.device.specs.Held.{stateIn, Steps}
@@ -18,12 +18,13 @@ use Rattle.probe_images.specs.Asked.{Answers}
 use Rattle.probe_images.specs.Images.{imageIn, kindIn, argumentIn, probeLine, probeText}
 
 -- ---- what the code gathers
-pub image-is : (line : List ℕ) {file : List ℕ} {level reference held edge pointer bus choice status int mode : ℕ} → file ≡ bytesAt line 0 128
+pub image-is : (line : List ℕ) {file : List ℕ} {level reference held edge pointer bus choice status int mode number place : ℕ} → file ≡ bytesAt line 0 128
     → level ≡ numberIn line 1 → reference ≡ numberIn line 2 → held ≡ numberIn line 3 → edge ≡ numberIn line 4
-    → pointer ≡ numberIn line 5 → bus ≡ numberIn line 6 → choice ≡ numberIn line 7 → status ≡ numberIn line 8 → int ≡ numberIn line 9 → mode ≡ numberIn line 10
-    → state (core file (record { level = level; reference = reference; held = held; edge = edge })) (interrupt status int) pointer mode bus choice ≡ imageIn line
-image-is line f l r h e p b c s i m =
-    λ j. state (core (f j) (record { level = l j; reference = r j; held = h j; edge = e j })) (interrupt (s j) (i j)) (p j) (m j) (b j) (c j)
+    → pointer ≡ numberIn line 5 → bus ≡ numberIn line 6 → choice ≡ numberIn line 7 → status ≡ numberIn line 8 → int ≡ numberIn line 9 → mode ≡ numberIn line 10 → number ≡ numberIn line 11
+    → place ≡ numberIn line 12
+    → state (core file (record { level = level; reference = reference; held = held; edge = edge })) (interrupt status int) pointer mode bus choice (identity number place) ≡ imageIn line
+image-is line f l r h e p b c s i m n q =
+    λ j. state (core (f j) (record { level = l j; reference = r j; held = h j; edge = e j })) (interrupt (s j) (i j)) (p j) (m j) (b j) (c j) (identity (n j) (q j))
 
 pub step-is : (part : ℕ) → part < 2 → (line : List ℕ) {d : Device} {t : Stepped} {kind arg : ℕ} → stateIn d ≡ imageIn line → d .part ≡ part → kind ≡ kindIn line → arg ≡ argumentIn line
     → Steps d kind arg t → Answers part line t

@@ -30,19 +30,19 @@ pub image-text : (s : State)
     → 0x09 ∷ bytesText (s .regs .file)
     ++ (fieldsText (take 4 (drop 1 widths)) (s .regs .sets .level ∷ s .regs .sets .reference ∷ s .regs .sets .held ∷ s .regs .sets .edge ∷ [])
     ++ (fieldsText (take 3 (drop 5 widths)) (s .pointer ∷ s .bus ∷ s .choice ∷ [])
-    ++ (fieldsText (take 2 (drop 8 widths)) (s .interrupt .status ∷ s .interrupt .line ∷ []) ++ fieldsText (drop 10 widths) (s .mode ∷ []))))
+    ++ (fieldsText (take 2 (drop 8 widths)) (s .interrupt .status ∷ s .interrupt .line ∷ []) ++ fieldsText (drop 10 widths) (s .mode ∷ s .id .number ∷ s .id .place ∷ []))))
     ≡ imageText s
 unfolding imageText
 image-text s =
     let bus : List ℕ = s .pointer ∷ s .bus ∷ s .choice ∷ [] in
     let kept : List ℕ = s .interrupt .status ∷ s .interrupt .line ∷ [] in
-    let mode : List ℕ = s .mode ∷ [] in
+    let last : List ℕ = s .mode ∷ s .id .number ∷ s .id .place ∷ [] in
     let sets : List ℕ = s .regs .sets .level ∷ s .regs .sets .reference ∷ s .regs .sets .held ∷ s .regs .sets .edge ∷ [] in
     ap (λ (x : List ℕ). 0x09 ∷ bytesText (s .regs .file) ++ x)
     (ap (λ (x : List ℕ). fieldsText (take 4 (drop 1 widths)) sets ++ x)
-    (ap (λ (x : List ℕ). fieldsText (take 3 (drop 5 widths)) bus ++ x) (fields-both (take 2 (drop 8 widths)) kept (drop 10 widths) mode refl)
-    ∙ fields-both (take 3 (drop 5 widths)) bus (drop 8 widths) (kept ++ mode) refl)
-    ∙ fields-both (take 4 (drop 1 widths)) sets (drop 5 widths) (bus ++ (kept ++ mode)) refl)
+    (ap (λ (x : List ℕ). fieldsText (take 3 (drop 5 widths)) bus ++ x) (fields-both (take 2 (drop 8 widths)) kept (drop 10 widths) last refl)
+    ∙ fields-both (take 3 (drop 5 widths)) bus (drop 8 widths) (kept ++ last) refl)
+    ∙ fields-both (take 4 (drop 1 widths)) sets (drop 5 widths) (bus ++ (kept ++ last)) refl)
 
 -- ---- an answer by the words that the image was packed into: a refusal shows nothing of them
 module _ {d : Device} {fits : Bool} {v w : List ℕ} (k : Packs (d .part) (stateIn d) fits v w) (int : Bool) (low high : ℕ)

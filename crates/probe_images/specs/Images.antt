@@ -7,7 +7,7 @@ use Rattle.pins.specs.declared.Sets.{Sets}
 use Rattle.map.specs.Map.{Part}
 use Rattle.registers.specs.Registers.{core}
 use Rattle.registers.specs.Interrupt.{interrupt}
-use Rattle.device_rules.specs.Device.{State, Outcome, state}
+use Rattle.device_rules.specs.Device.{State, Outcome, identity, state}
 use Rattle.device_rules.specs.Refusals.{stepped}
 use Rattle.text_answers.specs.Answers.{unlessRefused, newline, shownText, refusedLine}
 use Rattle.probe_fields.specs.Fields.{widths, readable, bytesAt, numberIn, bytesText, fieldsText}
@@ -19,12 +19,13 @@ setsIn line = record { level = numberIn line 1; reference = numberIn line 2; hel
 abbrev pub imageIn : (line : List ℕ) → State
 imageIn line =
     state (core (bytesAt line 0 128) (setsIn line)) (interrupt (numberIn line 8) (numberIn line 9)) (numberIn line 5) (numberIn line 10) (numberIn line 6) (numberIn line 7)
+    (identity (numberIn line 11) (numberIn line 12))
 
 abbrev pub kindIn : (line : List ℕ) → ℕ
-kindIn line = numberIn line 11
+kindIn line = numberIn line 13
 
 abbrev pub argumentIn : (line : List ℕ) → ℕ
-argumentIn line = numberIn line 12
+argumentIn line = numberIn line 14
 
 -- ---- the text of an image
 -- the same fields as a line's, less the event's; a tab before each
@@ -33,7 +34,7 @@ imageText s =
     0x09 ∷ bytesText (s .regs .file)
     ++ fieldsText (drop 1 widths)
     (s .regs .sets .level ∷ s .regs .sets .reference ∷ s .regs .sets .held ∷ s .regs .sets .edge
-    ∷ s .pointer ∷ s .bus ∷ s .choice ∷ s .interrupt .status ∷ s .interrupt .line ∷ s .mode ∷ [])
+    ∷ s .pointer ∷ s .bus ∷ s .choice ∷ s .interrupt .status ∷ s .interrupt .line ∷ s .mode ∷ s .id .number ∷ s .id .place ∷ [])
 
 -- ---- the answer
 -- as a trace tells the event; then the image after it, which no refusal has, and the newline

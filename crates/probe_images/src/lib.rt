@@ -24,7 +24,7 @@ use pins::Sets;
 
 // The device of the part whose image the line says.
 pub fn device_in(part: u8, line: &[u8]) -> Device
-    requires { ⌜ length (now line) ≡ 382 ⌝ }
+    requires { ⌜ length (now line) ≡ 394 ⌝ }
     ensures { λ d. ⌜ (stateIn d ≡ imageIn (now (line .entry))) × (d .part ≡ part) ⌝ }
 {
     let sets = Sets {
@@ -43,24 +43,26 @@ pub fn device_in(part: u8, line: &[u8]) -> Device
         status: probe_fields::word_at(line, probe_fields::STATUS_AT),
         line: probe_fields::byte_at(line, probe_fields::LINE_AT),
         mode: probe_fields::byte_at(line, probe_fields::MODE_AT),
+        number: probe_fields::half_at(line, probe_fields::NUMBER_AT) as u64,
+        place: probe_fields::byte_at(line, probe_fields::PLACE_AT),
     }
 }
 
 // The step that the line asks.
 pub fn step_in(part: u8, line: &[u8]) -> Stepped
-    requires { ⌜ (part < 2) × (length (now line) ≡ 382) ⌝ }
+    requires { ⌜ (part < 2) × (length (now line) ≡ 394) ⌝ }
     ensures { λ s. ⌜ Answers part (now (line .entry)) s ⌝ }
 {
     let device = device_in(part, line);
-    let kind = probe_fields::kind_in(line);
+    let kind = probe_fields::half_at(line, probe_fields::KIND_AT);
     let arg = probe_fields::word_at(line, probe_fields::ARGUMENT_AT);
     device.step(kind, arg)
 }
 
 // The image's fields, a tab before each.
 fn put_image(out: &mut [u8], at: usize, d: Device) -> usize
-    requires { ⌜ at + 357 ≤ length (now out) ⌝ }
-    ensures { λ r. ⌜ Wrote (now (out .entry)) at (imageText (stateIn d)) r (now (out .exit)) × (r ≡ at + 357) ⌝ }
+    requires { ⌜ at + 369 ≤ length (now out) ⌝ }
+    ensures { λ r. ⌜ Wrote (now (out .entry)) at (imageText (stateIn d)) r (now (out .exit)) × (r ≡ at + 369) ⌝ }
 {
     let file = d.file;
     let sets = d.sets;
@@ -69,7 +71,7 @@ fn put_image(out: &mut [u8], at: usize, d: Device) -> usize
     let pins = probe_fields::put_sets(out, bytes, sets.level, sets.reference, sets.held, sets.edge);
     let bus = probe_fields::put_bus(out, pins, d.pointer, d.bus, d.choice);
     let kept = probe_fields::put_interrupt(out, bus, d.status, d.line);
-    probe_fields::put_mode(out, kept, d.mode)
+    probe_fields::put_last(out, kept, d.mode, d.number, d.place)
 }
 
 // The text with which a trace tells an answer. A refusal's shows nothing of the device, whose image may be a broken one.
@@ -88,8 +90,8 @@ fn put_answer(out: &mut [u8], at: usize, d: Device, answer: Answer) -> usize
 
 // The answer, and behind it the image after the step; a refusal has no image.
 pub fn put_outcome(out: &mut [u8], at: usize, d: Device, answer: Answer) -> usize
-    requires { ⌜ (refusalNumber answer ≡ 0 → fitsIn d ≡ true) × (at + 383 ≤ length (now out)) ⌝ }
-    ensures { λ r. ⌜ Wrote (now (out .entry)) at (probeLine (partOf (d .part)) (outcome answer (stateIn d))) r (now (out .exit)) × (r ≤ at + 383) ⌝ }
+    requires { ⌜ (refusalNumber answer ≡ 0 → fitsIn d ≡ true) × (at + 395 ≤ length (now out)) ⌝ }
+    ensures { λ r. ⌜ Wrote (now (out .entry)) at (probeLine (partOf (d .part)) (outcome answer (stateIn d))) r (now (out .exit)) × (r ≤ at + 395) ⌝ }
 {
     let told = put_answer(out, at, d, answer);
     let Answer::Refused(_) = answer else {
@@ -101,8 +103,8 @@ pub fn put_outcome(out: &mut [u8], at: usize, d: Device, answer: Answer) -> usiz
 
 // One line, without its newline: its answer is written from at on.
 pub fn answer_line(part: u8, line: &[u8], out: &mut [u8], at: usize) -> usize
-    requires { ⌜ (part < 2) × (at + 383 ≤ length (now out)) ⌝ }
-    ensures { λ r. ⌜ Wrote (now (out .entry)) at (probeText (partOf part) (now (line .entry))) r (now (out .exit)) × (r ≤ at + 383) ⌝ }
+    requires { ⌜ (part < 2) × (at + 395 ≤ length (now out)) ⌝ }
+    ensures { λ r. ⌜ Wrote (now (out .entry)) at (probeText (partOf part) (now (line .entry))) r (now (out .exit)) × (r ≤ at + 395) ⌝ }
 {
     if !probe_fields::is_readable(line) {
         return text_answers::put_refused(out, at, UNREADABLE);
@@ -113,9 +115,9 @@ pub fn answer_line(part: u8, line: &[u8], out: &mut [u8], at: usize) -> usize
     put_outcome(out, at, after, answer)
 }
 
-// A line that has begun, of which 383 bytes are kept: no longer line is readable.
+// A line that has begun, of which 395 bytes are kept: no longer line is readable.
 pub struct Line {
-    pub held: [u8; 383],
+    pub held: [u8; 395],
     pub len: usize,
 }
 
@@ -124,15 +126,15 @@ pub fn begin() -> Line
     ensures { λ l. ⌜ Holds l [] ⌝ }
 {
     Line {
-        held: [0; 383],
+        held: [0; 395],
         len: 0,
     }
 }
 
 // The line with these bytes more.
 pub fn grow(line: Line, part: &[u8]) -> Line
-    requires { ⌜ line .len ≤ 383 ⌝ }
-    ensures { λ l. ⌜ (l .len ≤ 383) × ((text : List ℕ) → Holds line text → Holds l (text ++ now (part .entry))) ⌝ }
+    requires { ⌜ line .len ≤ 395 ⌝ }
+    ensures { λ l. ⌜ (l .len ≤ 395) × ((text : List ℕ) → Holds line text → Holds l (text ++ now (part .entry))) ⌝ }
 {
     let mut held = line.held;
     let len = text_pieces::keep(&mut held, line.len, part);
@@ -141,8 +143,8 @@ pub fn grow(line: Line, part: &[u8]) -> Line
 
 // The whole line's answer, written from at on.
 pub fn answer(part: u8, line: Line, out: &mut [u8], at: usize) -> usize
-    requires { ⌜ (part < 2) × (line .len ≤ 383) × (at + 383 ≤ length (now out)) ⌝ }
-    ensures { λ r. ⌜ ((text : List ℕ) → Holds line text → Wrote (now (out .entry)) at (probeText (partOf part) text) r (now (out .exit))) × (r ≤ at + 383) ⌝ }
+    requires { ⌜ (part < 2) × (line .len ≤ 395) × (at + 395 ≤ length (now out)) ⌝ }
+    ensures { λ r. ⌜ ((text : List ℕ) → Holds line text → Wrote (now (out .entry)) at (probeText (partOf part) text) r (now (out .exit))) × (r ≤ at + 395) ⌝ }
 {
     let held = line.held;
     let len = line.len;

@@ -8,9 +8,9 @@ use probe_images::Line;
 // Writes the answers so far where there is no room for one more, and says where the next one goes.
 fn make_room(out: &[u8], end: usize) -> usize
     requires { ⌜ end ≤ length (now out) ⌝ }
-    ensures { λ at. ⌜ at ≤ 65153 ⌝ }
+    ensures { λ at. ⌜ at ≤ 65141 ⌝ }
 {
-    if end <= 65_153 {
+    if end <= 65_141 {
         return end;
     }
     io::write_all(STDOUT_FILENO, &out[0..end]);
@@ -19,8 +19,8 @@ fn make_room(out: &[u8], end: usize) -> usize
 
 // Every line that ends in this piece is answered; the rest of the piece begins the next line.
 fn answer_piece(part: u8, line: Line, piece: &[u8], out: &mut [u8]) -> Line
-    requires { ⌜ (part < 2) × (line .len ≤ 383) × (length (now out) ≡ 65536) ⌝ }
-    ensures { λ l. ⌜ l .len ≤ 383 ⌝ }
+    requires { ⌜ (part < 2) × (line .len ≤ 395) × (length (now out) ≡ 65536) ⌝ }
+    ensures { λ l. ⌜ l .len ≤ 395 ⌝ }
 {
     let mut begun = line;
     let mut rest = piece;
@@ -45,7 +45,7 @@ fn answer_piece(part: u8, line: Line, piece: &[u8], out: &mut [u8]) -> Line
 
 // A last line without newline counts if it holds a byte.
 fn answer_last(part: u8, line: Line, out: &mut [u8])
-    requires { ⌜ (part < 2) × (line .len ≤ 383) × (length (now out) ≡ 65536) ⌝ }
+    requires { ⌜ (part < 2) × (line .len ≤ 395) × (length (now out) ≡ 65536) ⌝ }
 {
     if 0 < line.len {
         let end = probe_images::answer(part, line, out, 0);

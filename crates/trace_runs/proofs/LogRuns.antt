@@ -46,12 +46,12 @@ events-seen part s (l ∷ lines) more (e ∷ es) says =
 -- a device's life, whatever there was before
 life-seen : (x : Session) (lines more : List (List ℕ)) (d : Life) → SayLife (partIn x) lines d
     → answersFrom x (lines ++ more)
-    ≡ lifeLines d ++ answersFrom (With (d .part) (after (partOf (d .part)) (powerOn (partOf (d .part)) (d .choice) (d .levels)) (d .events))) more
+    ≡ lifeLines d ++ answersFrom (With (d .part) (after (partOf (d .part)) (powerOn (partOf (d .part)) (d .choice) (d .levels) 0) (d .events))) more
 unfolding answersFrom seenLines traced shownLine shownText answerLine
 life-seen x [] more d says = absurd says
 life-seen x (l ∷ lines) more d says =
     let p : Part = partOf (d .part) in
-    let s : State = powerOn p (d .choice) (d .levels) in
+    let s : State = powerOn p (d .choice) (d .levels) 0 in
     ap (λ (y : Line). traced x y .line ++ answersFrom (traced x y .after) (lines ++ more)) (says .0)
     ∙ ap (λ (t : List ℕ). shownLine p (out Nothing s) ++ t) (events-seen (d .part) s lines more (d .events) (says .1))
     ∙ sym (append-assoc (shownLine p (out Nothing s)) (seenLines p (seenFrom p s (d .events))) (answersFrom (With (d .part) (after p s (d .events))) more))
@@ -62,7 +62,7 @@ lives-seen x [] [] says = refl
 lives-seen x [] (d ∷ ds) says = absurd says
 lives-seen x (lines ∷ groups) [] says = absurd says
 lives-seen x (lines ∷ groups) (d ∷ ds) says =
-    let s : State = after (partOf (d .part)) (powerOn (partOf (d .part)) (d .choice) (d .levels)) (d .events) in
+    let s : State = after (partOf (d .part)) (powerOn (partOf (d .part)) (d .choice) (d .levels) 0) (d .events) in
     life-seen x lines (allLines groups) d (says .0) ∙ ap (λ (t : List ℕ). lifeLines d ++ t) (lives-seen (With (d .part) s) groups ds (says .1))
 
 -- a log that makes devices of either part, one after the other, each with events of it, is answered by the header and the lines of their runs from power-on
@@ -111,7 +111,7 @@ unfolding traced
 said x g Unreadable m = (inl refl, g)
 said x g (Device part choice levels) m =
     let h = m .makes part choice levels refl in
-    (inr (part, out Nothing (powerOn (partOf part) choice levels), refl, refl), power-on-fits (partOf part) (lawful part) choice levels (omega (arith, h .1)) (h .2))
+    (inr (part, out Nothing (powerOn (partOf part) choice levels 0), refl, refl), power-on-fits (partOf part) (lawful part) choice levels 0 (omega (arith, h .1)) (h .2) (omega arith))
 said NoDevice g (Event kind arg) m = (inl refl, tt)
 said (With part s) g (Event kind arg) m =
     (inr (part, stepped (partOf part) s kind arg, answers (partOf part) s g kind arg (m .takes kind arg refl), refl), stepped-keeps (partOf part) (lawful part) s g kind arg)

@@ -26,7 +26,7 @@ pub record Life : Type 0 where
 
 -- the lines of its run
 abbrev pub lifeLines : Life → List ℕ
-lifeLines d = seenLines (partOf (d .part)) (run (partOf (d .part)) (d .choice) (d .levels) (d .events))
+lifeLines d = seenLines (partOf (d .part)) (run (partOf (d .part)) (d .choice) (d .levels) 0 (d .events))
 
 unfoldable pub livesLines : List Life → List ℕ
 livesLines [] = []

@@ -135,7 +135,7 @@ line-here words text = ap (λ (p : Part). lineOf p text) (sym (go (getD words 27
     go (suc (suc n)) = rw (le-ltb (suc (suc n)) 2 (omega arith))
 
 module _ (x : Session) (said : Line) (text : List ℕ) (read : said ≡ lineOf (partIn x) text) where
-  pub device-told : {part choice levels : ℕ} → said ≡ MadeLine part choice levels → toldBy part (out Nothing (powerOn (partOf part) choice levels)) ≡ answerTo x text
+  pub device-told : {part choice levels : ℕ} → said ≡ MadeLine part choice levels → toldBy part (out Nothing (powerOn (partOf part) choice levels 0)) ≡ answerTo x text
   unfolding traced
   device-told e = rw (← read, e)
 
@@ -150,7 +150,7 @@ module _ (x : Session) (said : Line) (text : List ℕ) (read : said ≡ lineOf (
 pub traced-short : (x : Session) (l : Line) → length (traced x l .line) ≤ 26
 unfolding traced
 traced-short x Unreadable = omega (arith, refused-short 7)
-traced-short x (MadeLine part choice levels) = told-short part (out Nothing (powerOn (partOf part) choice levels))
+traced-short x (MadeLine part choice levels) = told-short part (out Nothing (powerOn (partOf part) choice levels 0))
 traced-short NoDevice (Event kind arg) = omega (arith, refused-short 7)
 traced-short (With part s) (Event kind arg) = told-short part (stepped (partOf part) s kind arg)
 

@@ -47,10 +47,10 @@ toldBy part o = record { line = shownLine (partOf part) o; after = With part (o 
 abbrev pub unreadable : Session → Traced
 unreadable x = record { line = refusedLine 7; after = x }
 
--- An event before a device is unreadable; a device line starts anew.
+-- An event before a device is unreadable; a device line starts anew, with the Device ID 0.
 unfoldable pub traced : Session → Line → Traced
 traced x Unreadable = unreadable x
-traced x (Device part choice levels) = toldBy part (out Nothing (powerOn (partOf part) choice levels))
+traced x (Device part choice levels) = toldBy part (out Nothing (powerOn (partOf part) choice levels 0))
 traced NoDevice (Event kind arg) = unreadable NoDevice
 traced (With part s) (Event kind arg) = toldBy part (stepped (partOf part) s kind arg)
 

@@ -21,6 +21,9 @@ use words::PART;
 use words::PIN_KIND;
 use words::PORT_KIND;
 
+// The Device ID of a device that a line makes.
+const NO_ID: u64 = 0;
+
 // The part of words that hold no device yet.
 pub const NO_PART: u64 = 2;
 
@@ -94,10 +97,10 @@ fn make(
     at: usize,
 ) -> usize
     requires { ⌜ (part < 2) × (choice < 4) × (levels < 2 ^ partOf part .width) × (at + 26 ≤ length (now out)) ⌝ }
-    ensures { λ end. ⌜ Says (toldBy part (outcome Nothing (powerOn (partOf part) choice levels))) (now (words .entry)) (now (out .entry)) at end (now (out .exit)) (now (words .exit))
+    ensures { λ end. ⌜ Says (toldBy part (outcome Nothing (powerOn (partOf part) choice levels 0))) (now (words .entry)) (now (out .entry)) at end (now (out .exit)) (now (words .exit))
         × Beside (now (words .exit)) (now (rows .exit)) (now (next .exit)) (now (told .exit)) (now (kept .exit)) ⌝ }
 {
-    words_device::power_on(words, part, choice, levels);
+    words_device::power_on(words, part, choice, levels, NO_ID);
     words_rows::put_rows(rows, part);
     map::put_next(next, part);
     refresh(&*words, told, kept);

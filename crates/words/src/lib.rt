@@ -53,6 +53,11 @@ pub const CHOICE: usize = 23;
 // The pointer's mode: 0 it steps in its group, 1 over the whole map.
 pub const MODE: usize = 24;
 
+// The Device ID: its number, and the place of the byte that is told next.
+pub const ID: usize = 25;
+
+pub const PLACE: usize = 26;
+
 pub const PART: usize = 27;
 
 // That the words are 28 is no part of what a lent array says; a slice made of it says so. Costs nothing.

@@ -9,8 +9,8 @@ use lib.ListN.{length, getD, List·getD-append}
 use lib.Seq.{getD-append-add}
 use Rattle.bits.proofs.Decide.{either-arm}
 use Rattle.map.specs.Map.{Part, reserved}
-use Rattle.device_rules.specs.Device.{State, Event, Bus, Outcome, busAt, out, addressByte, byteIn, fetchIn, step}
-use Rattle.device_rules.specs.Device.Bus.{Idle, Opened, Chosen, Filling, Sending, Call, Armed, Deaf}
+use Rattle.device_rules.specs.Device.{State, Event, Bus, Outcome, busAt, out, addressByte, ours, addressed, byteIn, fetchIn, step}
+use Rattle.device_rules.specs.Device.Bus.{Idle, Opened, Chosen, Filling, Sending, Call, Armed, Deaf, Asking, Named, Reopened, Telling}
 use Rattle.device_rules.specs.Device.Event.{Start, Stop, HardwareReset, ByteSent, ByteFetched, Levels}
 use Rattle.device_rules.specs.Refusals.{imageFits, eventOf, refusal, stepped}
 use Rattle.device_rules.specs.Answers.{answerKind, refusalNumber}
@@ -24,16 +24,25 @@ abbrev Clear : Outcome → Type 0
 Clear o = eqb (refusalNumber (o .answer)) 0 ≡ not (eqb (answerKind (o .answer)) 4)
 
 module _ (p : Part) (s : State) where
+  address-clear : (b : ℕ) → Clear (addressed s b)
+  address-clear b =
+      either-arm Clear (eqb b (addressByte s)) refl
+      (either-arm Clear (eqb b (addressByte s + 1)) refl (either-arm Clear (eqb b 0x00) refl (either-arm Clear (eqb b 0xf8) refl refl)))
+
   byte-clear : (k : Bus) (b : ℕ) → Clear (byteIn p k s b)
   unfolding byteIn
   byte-clear Idle b = refl
-  byte-clear Opened b = either-arm Clear (eqb b (addressByte s)) refl (either-arm Clear (eqb b (addressByte s + 1)) refl (either-arm Clear (eqb b 0x00) refl refl))
+  byte-clear Opened b = address-clear b
   byte-clear Chosen b = either-arm Clear (reserved p (b % 128)) refl refl
   byte-clear Filling b = refl
   byte-clear Sending b = refl
   byte-clear Call b = either-arm Clear (eqb b 0x06) refl refl
   byte-clear Armed b = refl
   byte-clear Deaf b = refl
+  byte-clear Asking b = either-arm Clear (ours s b) refl refl
+  byte-clear Named b = refl
+  byte-clear Reopened b = either-arm Clear (eqb b 0xf9) refl (address-clear b)
+  byte-clear Telling b = refl
 
   fetch-clear : (k : Bus) (acknowledged : Bool) → Clear (fetchIn p k s acknowledged)
   unfolding fetchIn
@@ -45,6 +54,10 @@ module _ (p : Part) (s : State) where
   fetch-clear Call acknowledged = refl
   fetch-clear Armed acknowledged = refl
   fetch-clear Deaf acknowledged = refl
+  fetch-clear Asking acknowledged = refl
+  fetch-clear Named acknowledged = refl
+  fetch-clear Reopened acknowledged = refl
+  fetch-clear Telling acknowledged = refl
 
   step-clear : (e : Event) → Clear (step p s e)
   unfolding step

@@ -5,7 +5,7 @@ ghost use Prim.Native.Nat.{ℕ, _-_, _%_, _^_, _<_};
 ghost use lib.ListN.{getD, set};
 ghost use Rattle.map.specs.Map.{partOf, onward, nextIn};
 ghost use Rattle.device_rules.specs.Device.{byteIn, step as stepOf};
-ghost use Rattle.device_rules.specs.Device.Bus.{Opened, Chosen, Filling, Call};
+ghost use Rattle.device_rules.specs.Device.Bus.{Chosen, Filling, Call};
 ghost use Rattle.device_rules.specs.Device.Event.{Stop, ByteSent, ByteFetched};
 ghost use Rattle.device_rules.specs.Refusals.{stepped};
 ghost use Rattle.words_rows.specs.Rows.{rowAt};
@@ -17,7 +17,6 @@ use device_rules::RESET;
 use device_rules::START;
 use device_rules::STOP;
 use words::BUS;
-use words::CHOICE;
 use words::MODE;
 use words::PART;
 use words::POINTER;
@@ -44,24 +43,11 @@ const ARMED: u64 = 6;
 
 const DEAF: u64 = 7;
 
-// A byte in Opened: the address with its direction, or the general call.
-fn byte_opened(words: &mut [u64; 28], value: u8) -> u32
-    requires { ⌜ Packed (getD (now words) 27 0) (now words) ⌝ }
-    ensures { λ a. ⌜ ((c : ℕ) → Packed c (now (words .entry)) → Leaves c (now (words .exit)) (answerAt a) (byteIn (partOf c) Opened (stateIn (partOf c) (now (words .entry))) value)) ⌝ }
-{
-    let address = 2 * (0x20 + words[CHOICE]);
-    let byte = value as u64;
-    if byte == address {
-        return words_state::goes(words, CHOSEN, ACK);
-    }
-    if byte == address + 1 {
-        return words_state::goes(words, SENDING, ACK);
-    }
-    if byte == 0 {
-        return words_state::goes(words, CALL, ACK);
-    }
-    words_state::goes(words, DEAF, NAK)
-}
+const ASKING: u64 = 8;
+
+const REOPENED: u64 = 10;
+
+const TELLING: u64 = 11;
 
 // A byte in Chosen: the command, whose row is given.
 fn byte_chosen(words: &mut [u64; 28], wanted: u32, value: u8) -> u32
@@ -119,10 +105,12 @@ fn byte(words: &mut [u64; 28], row: u32, value: u8) -> u32
 {
     let bus = words[BUS];
     match bus {
-        OPENED => byte_opened(words, value),
+        OPENED => words_address::address(words, value),
         FILLING => byte_filling(words, row, value),
         CALL => byte_call(words, value),
         IDLE => NAK,
+        ASKING => words_address::asked(words, value),
+        REOPENED => words_address::asked_again(words, value),
         _ => words_state::goes(words, DEAF, NAK),
     }
 }
@@ -143,6 +131,18 @@ fn was_fetched(words: &mut [u64; 28], row: u32, acknowledged: bool, answer: u32)
     answer
 }
 
+// A byte fetched in another state than Sending: the Device ID's in Telling, else none.
+fn fetch_elsewhere(words: &mut [u64; 28], acknowledged: bool) -> u32
+    requires { ⌜ Packed (getD (now words) 27 0) (now words) ⌝ }
+    ensures { λ a. ⌜ ((c : ℕ) → Packed c (now (words .entry)) → (getD (now (words .entry)) 22 0 ≡ 4 → ⊥)
+        → Leaves c (now (words .exit)) (answerAt a) (stepOf (partOf c) (stateIn (partOf c) (now (words .entry))) (ByteFetched acknowledged))) ⌝ }
+{
+    if words[BUS] == TELLING {
+        return words_address::tell(words, acknowledged);
+    }
+    words_state::read(0xff)
+}
+
 // A byte fetched by the master.
 fn fetch(words: &mut [u64; 28], row: u32, acknowledged: bool) -> u32
     requires { ⌜ Standing row (getD (now words) 21 0) (now words) ⌝ }
@@ -150,7 +150,7 @@ fn fetch(words: &mut [u64; 28], row: u32, acknowledged: bool) -> u32
         → Leaves c (now (words .exit)) (answerAt a) (stepOf (partOf c) (stateIn (partOf c) (now (words .entry))) (ByteFetched acknowledged))) ⌝ }
 {
     if words[BUS] != SENDING {
-        return words_state::read(0xff);
+        return fetch_elsewhere(words, acknowledged);
     }
     if words_rows::rule(row) == words_rows::INPUT {
         let answer = words_state::read(words_views::show_inputs(&*words, row));
@@ -204,7 +204,7 @@ pub fn event(words: &mut [u64; 28], pins: u64, row: u32, kind: u32, arg: u64) ->
         → (kind ≡ 2 → getD (now (words .entry)) 22 0 ≡ 2 → ⊥) → Leaves c (now (words .exit)) (answerAt a) (stepped (partOf c) (stateIn (partOf c) (now (words .entry))) kind arg)) ⌝ }
 {
     match kind {
-        START => words_state::goes(words, OPENED, NOTHING),
+        START => words_address::start(words),
         STOP => stop(words, pins),
         BYTE => {
             if 255 < arg {

@@ -12,14 +12,14 @@ use Rattle.words.specs.Words.{withSets}
 use Rattle.words_state.specs.Packed.{resetWords, Leaves}
 use Rattle.words_state.proofs.Resetting.{fresh}
 
-module _ (part choice levels : ℕ) (hp : part < 2) (hc : choice < 4) (hl : levels < 2 ^ partOf part .width) where
+module _ (part choice levels id : ℕ) (hp : part < 2) (hc : choice < 4) (hl : levels < 2 ^ partOf part .width) (hi : id < 2 ^ 24) where
   abbrev y : Sets
   y = record { level = levels; reference = levels; held = 0; edge = 0 }
 
   pub powered : (pins : ℕ) → pins ≡ 2 ^ partOf part .width - 1
-      → Leaves part (withSets (resetWords pins choice part) y) Nothing (out Nothing (powerOn (partOf part) choice levels))
+      → Leaves part (withSets (resetWords pins choice id part) y) Nothing (out Nothing (powerOn (partOf part) choice levels id))
   unfolding powerOn
   powered pins e =
-      fresh part choice hp hc pins e y y
+      fresh part choice id hp hc hi pins e y y
       (reset-map (partOf part .width) y
       (record { level-small = hl; reference-small = hl; held-small = pow-pos (partOf part .width); edge-small = pow-pos (partOf part .width) }))

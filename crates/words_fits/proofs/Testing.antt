@@ -19,7 +19,6 @@ use Rattle.words.proofs.Sound.{sound}
 use Rattle.words.proofs.Holding.{small-of-clear, pin-word}
 use Rattle.words.proofs.Existing.{ones-bit}
 use Rattle.words_state.specs.Packed.{unionTo, Bounded, Limits}
-use Rattle.words_state.proofs.Left.{unused-case}
 
 -- ---- numbers that are 0
 zero-of-dark : (x : ℕ) → ((i : ℕ) → bit x i ≡ false) → x ≡ 0
@@ -139,43 +138,40 @@ module _ (c : ℕ) (w : List ℕ) (spare stale : ℕ) where
       → (stale ≡ 0 → interruptIn w ≡ workedOut (partOf c) (coreIn (partOf c) w)) × (interruptIn w ≡ workedOut (partOf c) (coreIn (partOf c) w) → stale ≡ 0)
 
   abbrev Odd : ℕ
-  Odd = bitOr (bitOr (bitOr (bitOr (bitOr (getD w 21 0 / 2 ^ 7) (getD w 22 0 / 2 ^ 3)) (getD w 23 0 / 2 ^ 2)) (getD w 24 0 / 2 ^ 1)) (getD w 25 0)) (getD w 26 0)
+  Odd = bitOr (bitOr (bitOr (getD w 21 0 / 2 ^ 7) (getD w 23 0 / 2 ^ 2)) (getD w 24 0 / 2 ^ 1)) (getD w 25 0 / 2 ^ 24)
 
-  pub tested : Spares → Stale → bitOr (bitOr (bitOr spare Odd) stale) (bitXor (getD w 27 0) c) ≡ 0 → Bounded c w
-  tested fits says e =
+  pub tested : Spares → Stale → getD w 22 0 ≤ 11 → getD w 26 0 ≤ 2 → bitOr (bitOr (bitOr spare Odd) stale) (bitXor (getD w 27 0) c) ≡ 0 → Bounded c w
+  tested fits says bus place e =
       let its = or-zero (bitOr (bitOr spare Odd) stale) (bitXor (getD w 27 0) c) e in
       let all = or-zero (bitOr spare Odd) stale (its .0) in
       let both = or-zero spare Odd (all .0) in
       let fit = fits .0 (both .0) in
-      let e5 = or-zero (bitOr (bitOr (bitOr (bitOr (getD w 21 0 / 2 ^ 7) (getD w 22 0 / 2 ^ 3)) (getD w 23 0 / 2 ^ 2)) (getD w 24 0 / 2 ^ 1)) (getD w 25 0)) (getD w 26 0) (both .1) in
-      let e4 = or-zero (bitOr (bitOr (bitOr (getD w 21 0 / 2 ^ 7) (getD w 22 0 / 2 ^ 3)) (getD w 23 0 / 2 ^ 2)) (getD w 24 0 / 2 ^ 1)) (getD w 25 0) (e5 .0) in
-      let e3 = or-zero (bitOr (bitOr (getD w 21 0 / 2 ^ 7) (getD w 22 0 / 2 ^ 3)) (getD w 23 0 / 2 ^ 2)) (getD w 24 0 / 2 ^ 1) (e4 .0) in
-      let e2 = or-zero (bitOr (getD w 21 0 / 2 ^ 7) (getD w 22 0 / 2 ^ 3)) (getD w 23 0 / 2 ^ 2) (e3 .0) in
-      let e1 = or-zero (getD w 21 0 / 2 ^ 7) (getD w 22 0 / 2 ^ 3) (e2 .0) in
+      let e3 = or-zero (bitOr (bitOr (getD w 21 0 / 2 ^ 7) (getD w 23 0 / 2 ^ 2)) (getD w 24 0 / 2 ^ 1)) (getD w 25 0 / 2 ^ 24) (both .1) in
+      let e2 = or-zero (bitOr (getD w 21 0 / 2 ^ 7) (getD w 23 0 / 2 ^ 2)) (getD w 24 0 / 2 ^ 1) (e3 .0) in
+      let e1 = or-zero (getD w 21 0 / 2 ^ 7) (getD w 23 0 / 2 ^ 2) (e2 .0) in
       record {
         fit = fit;
         right = says fit .0 (all .1);
-        none = unused-case (λ s. getD w s 0 ≡ 0) (e4 .1) (e5 .1);
         pointer-small = let m : getD w 21 0 % 128 < 128 = mod-lt (getD w 21 0) (omega arith) in omega (arith, div-add-mod' (getD w 21 0) 128, e1 .0);
-        mode-small = let m : getD w 24 0 % 2 < 2 = mod-lt (getD w 24 0) (omega arith) in omega (arith, div-add-mod' (getD w 24 0) 2, e3 .1);
-        bus-small = let m : getD w 22 0 % 8 < 8 = mod-lt (getD w 22 0) (omega arith) in omega (arith, div-add-mod' (getD w 22 0) 8, e1 .1);
-        choice-small = let m : getD w 23 0 % 4 < 4 = mod-lt (getD w 23 0) (omega arith) in omega (arith, div-add-mod' (getD w 23 0) 4, e2 .1);
+        mode-small = let m : getD w 24 0 % 2 < 2 = mod-lt (getD w 24 0) (omega arith) in omega (arith, div-add-mod' (getD w 24 0) 2, e2 .1);
+        bus-small = omega arith;
+        choice-small = let m : getD w 23 0 % 4 < 4 = mod-lt (getD w 23 0) (omega arith) in omega (arith, div-add-mod' (getD w 23 0) 4, e1 .1);
+        id-small = let m : getD w 25 0 % 16777216 < 16777216 = mod-lt (getD w 25 0) (omega arith) in omega (arith, div-add-mod' (getD w 25 0) 16777216, e3 .1);
+        place-small = omega arith;
         part-is = xor-zero (getD w 27 0) c (its .1);
       }
 
   pub passes : Spares → Stale → Bounded c w → bitOr (bitOr (bitOr spare Odd) stale) (bitXor (getD w 27 0) c) ≡ 0
   passes fits says b =
       let h21 = b .pointer-small in
-      let h22 = b .bus-small in
       let h23 = b .choice-small in
       let h24 = b .mode-small in
+      let h25 = b .id-small in
       let p : getD w 21 0 / 128 ≡ 0 = omega (arith, div-add-mod' (getD w 21 0) 128) in
-      let q : getD w 22 0 / 8 ≡ 0 = omega (arith, div-add-mod' (getD w 22 0) 8) in
       let r : getD w 23 0 / 4 ≡ 0 = omega (arith, div-add-mod' (getD w 23 0) 4) in
       let m : getD w 24 0 / 2 ≡ 0 = omega (arith, div-add-mod' (getD w 24 0) 2) in
-      zero-or (zero-or (zero-or (fits .1 (b .fit))
-      (zero-or (zero-or (zero-or (zero-or (zero-or p q) r) m) (b .none 25 refl)) (b .none 26 refl)))
-      (says (b .fit) .1 (b .right)))
+      let i : getD w 25 0 / 16777216 ≡ 0 = omega (arith, div-add-mod' (getD w 25 0) 16777216) in
+      zero-or (zero-or (zero-or (fits .1 (b .fit)) (zero-or (zero-or (zero-or p r) m) i)) (says (b .fit) .1 (b .right)))
       (ap (bitXor (getD w 27 0)) (sym (b .part-is)) ∙ xor-self (getD w 27 0))
 
 -- ---- what is kept, compared bit by bit with what is worked out

@@ -20,12 +20,19 @@ use words::BUS;
 use words::CHOICE;
 use words::DEBOUNCE_COUNT;
 use words::DEBOUNCE_ENABLE;
+use words::ID;
 use words::LINE;
 use words::MODE;
 use words::PART;
+use words::PLACE;
 use words::POINTER;
 use words::PORT_KIND;
 use words::STATUS;
+
+// The last bus state, and the last place in a Device ID.
+const LAST_BUS: u64 = 11;
+
+const LAST_PLACE: u64 = 2;
 
 // The bits that are set in some word of pins: the port kind among them, debounce not, which have limits of their own.
 fn union(words: &[u64; 28]) -> u64
@@ -52,13 +59,12 @@ fn spare(words: &[u64; 28], pins: u64, kinds: u64, enables: u64, counts: u64) ->
         | (count ^ (count & counts))
 }
 
-// What is set in the other words, and may not be.
+// What is set in the words that end at a bit, and may not be.
 fn odd(words: &[u64; 28]) -> u64
-    ensures { λ s. ⌜ s ≡ bitOr (bitOr (bitOr (bitOr (bitOr (getD (now (words .entry)) 21 0 / 2 ^ 7) (getD (now (words .entry)) 22 0 / 2 ^ 3))
-        (getD (now (words .entry)) 23 0 / 2 ^ 2)) (getD (now (words .entry)) 24 0 / 2 ^ 1)) (getD (now (words .entry)) 25 0)) (getD (now (words .entry)) 26 0) ⌝ }
+    ensures { λ s. ⌜ s ≡ bitOr (bitOr (bitOr (getD (now (words .entry)) 21 0 / 2 ^ 7) (getD (now (words .entry)) 23 0 / 2 ^ 2)) (getD (now (words .entry)) 24 0 / 2 ^ 1))
+        (getD (now (words .entry)) 25 0 / 2 ^ 24) ⌝ }
 {
-    let small = (words[POINTER] >> 7) | (words[BUS] >> 3) | (words[CHOICE] >> 2);
-    small | (words[MODE] >> 1) | words[25] | words[26]
+    (words[POINTER] >> 7) | (words[CHOICE] >> 2) | (words[MODE] >> 1) | (words[ID] >> 24)
 }
 
 // In which bits the status set and the line are not what the rules work out.
@@ -77,6 +83,12 @@ fn bounded(words: &[u64; 28], part: u64, spare: u64) -> bool
     requires { ⌜ (spare ≡ 0 → Fit (partOf part) (now words)) × (Fit (partOf part) (now words) → spare ≡ 0) ⌝ }
     ensures { λ r. ⌜ (r ≡ true → Bounded part (now (words .entry))) × (Bounded part (now (words .entry)) → r ≡ true) ⌝ }
 {
+    if LAST_BUS < words[BUS] {
+        return false;
+    }
+    if LAST_PLACE < words[PLACE] {
+        return false;
+    }
     spare | odd(words) | stale(words) | (words[PART] ^ part) == 0
 }
 

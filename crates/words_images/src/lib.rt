@@ -6,16 +6,18 @@ ghost use lib.ListN.{length, getD};
 ghost use Rattle.map.specs.Map.{fileFits, partOf};
 ghost use Rattle.registers.specs.Registers.{core};
 ghost use Rattle.registers.specs.Interrupt.{interrupt};
-ghost use Rattle.device_rules.specs.Device.{state};
+ghost use Rattle.device_rules.specs.Device.{identity, state};
 ghost use Rattle.words.specs.Words.{fileOf, Fit};
 ghost use Rattle.words_images.specs.Images.{Packs, restIn};
 use device_rules::Rest;
 use pins::Sets;
 use words::BUS;
 use words::CHOICE;
+use words::ID;
 use words::LINE;
 use words::MODE;
 use words::PART;
+use words::PLACE;
 use words::POINTER;
 use words::STATUS;
 
@@ -39,11 +41,10 @@ pub fn to_file(words: &[u64; 28], part: u64, file: &mut [u8; 128])
     }
 }
 
-// The words that stand for a register file; every other word 0.
+// The words that stand for a register file.
 fn from_file(words: &mut [u64; 28], part: u64, file: &[u8; 128])
     ensures { λ r. ⌜ Fit (partOf part) (now (words .exit))
-        × (fileFits (partOf part) (now (file .entry)) ≡ true → fileOf (partOf part) (now (words .exit)) ≡ now (file .entry))
-        × ((s : ℕ) → 18 < s → getD (now (words .exit)) s 0 ≡ 0) ⌝ }
+        × (fileFits (partOf part) (now (file .entry)) ≡ true → fileOf (partOf part) (now (words .exit)) ≡ now (file .entry)) ⌝ }
 {
     let _count = counted(file);
     *words = [0; 28];
@@ -83,8 +84,10 @@ pub fn pack(
     status: u64,
     line: u64,
     mode: u64,
+    number: u64,
+    place: u64,
 ) -> bool
-    ensures { λ fits. ⌜ Packs part (state (core (now (file .entry)) sets) (interrupt status line) pointer mode bus choice) fits (now (words .entry)) (now (words .exit)) ⌝ }
+    ensures { λ fits. ⌜ Packs part (state (core (now (file .entry)) sets) (interrupt status line) pointer mode bus choice (identity number place)) fits (now (words .entry)) (now (words .exit)) ⌝ }
 {
     let mut fresh = [0u64; 28];
     from_file(&mut fresh, part, file);
@@ -95,6 +98,8 @@ pub fn pack(
     fresh[STATUS] = status;
     fresh[LINE] = line;
     fresh[MODE] = mode;
+    fresh[ID] = number;
+    fresh[PLACE] = place;
     fresh[PART] = part;
     if !stand_for(&fresh, part, file) {
         return false;
@@ -119,6 +124,8 @@ pub fn unpack(words: &[u64; 28], file: &mut [u8; 128]) -> Rest
     let status = words[STATUS];
     let line = (words[LINE] % 256) as u8;
     let mode = (words[MODE] % 256) as u8;
+    let number = words[ID];
+    let place = (words[PLACE] % 256) as u8;
     Rest {
         sets,
         pointer,
@@ -127,5 +134,7 @@ pub fn unpack(words: &[u64; 28], file: &mut [u8; 128]) -> Rest
         status,
         line,
         mode,
+        number,
+        place,
     }
 }

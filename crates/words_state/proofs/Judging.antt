@@ -13,20 +13,20 @@ use Rattle.bits.proofs.Decide.{clash}
 use Rattle.pins.specs.declared.Sets.{Sets}
 use Rattle.map.specs.Map.{Part, reserved, partOf}
 use Rattle.registers.specs.Registers.{Core}
-use Rattle.device_rules.specs.Device.{State, Bus, Outcome, number, busAt, state, out, goes, addressByte, byteIn, fetchIn, Event, step}
-use Rattle.device_rules.specs.Device.Bus.{Idle, Opened, Chosen, Filling, Sending, Call, Armed, Deaf}
+use Rattle.device_rules.specs.Device.{State, Bus, Outcome, number, busAt, state, out, goes, addressByte, ours, addressed, byteIn, fetchIn, Event, step}
+use Rattle.device_rules.specs.Device.Bus.{Idle, Opened, Chosen, Filling, Sending, Call, Armed, Deaf, Asking, Named, Reopened, Telling}
 use Rattle.device_rules.specs.Device.Event.{Start, Stop, HardwareReset, ByteSent, ByteFetched, Levels}
 use Rattle.device_rules.specs.declared.Answer.{Answer}
 use Rattle.device_rules.specs.declared.Answer.the-variants.{Nothing, Ack, Nak, Byte, Refused}
 use Rattle.device_rules.specs.Refusals.{eventOf, setsFit, imageFits, argumentFits, refusal, stepped}
-use Rattle.device_rules.proofs.Images.{fits-of}
+use Rattle.device_rules.proofs.Images.{fits-of, identity-fits}
 use Rattle.words.specs.Words.{setsIn}
 use Rattle.words.proofs.Sound.{sound}
 use Rattle.words.proofs.Holding.{within}
 use Rattle.words.proofs.Fits.{same-word-of, file-of-fits}
 use Rattle.words_rows.specs.Rows.{rowAt}
 use Rattle.words_rows.proofs.Taken.{known-small, row-zero}
-use Rattle.words_state.specs.Packed.{stateIn, unused, Packed, Leaves, Steps, Bounded}
+use Rattle.words_state.specs.Packed.{idIn, stateIn, Packed, Leaves, Steps, Bounded}
 
 -- ---- an image of packed words fits
 module _ (c : ℕ) (w : List ℕ) (k : Packed c w) where
@@ -37,8 +37,9 @@ module _ (c : ℕ) (w : List ℕ) (k : Packed c w) where
       simp (
         k .pointer-known,
         lt-ltb (getD w 24 0) 2 (k .mode-small),
-        lt-ltb (getD w 22 0) 8 (k .bus-small),
+        lt-ltb (getD w 22 0) 12 (k .bus-small),
         lt-ltb (getD w 23 0) 4 (k .choice-small),
+        identity-fits (idIn w) (k .id-small) (k .place-small),
         lt-ltb (getD w 0 0) (2 ^ partOf c .width) (d .level-small),
         lt-ltb (getD w 1 0) (2 ^ partOf c .width) (d .reference-small),
         lt-ltb (getD w 2 0) (2 ^ partOf c .width) (d .held-small),
@@ -95,21 +96,27 @@ module _ (p : Part) (s : State) where
   either true x y p q = p
   either false x y p q = q
 
+  plain-address : (v : ℕ) → Plain (addressed s v)
+  plain-address v =
+      either (eqb v (addressByte s)) _ _ (record { is = refl })
+      (either (eqb v (addressByte s + 1)) _ _ (record { is = refl })
+      (either (eqb v 0x00) _ _ (record { is = refl }) (either (eqb v 0xf8) _ _ (record { is = refl }) (record { is = refl }))))
+
   plain-byte : (b : Bus) (v : ℕ) → Plain (byteIn p b s v)
   unfolding byteIn
-  plain-byte Opened v =
-      either (eqb v (addressByte s)) (out Ack (goes s Chosen))
-      (cond (eqb v (addressByte s + 1)) (out Ack (goes s Sending)) (cond (eqb v 0x00) (out Ack (goes s Call)) (out Nak (goes s Deaf)))) (record { is = refl })
-      (either (eqb v (addressByte s + 1)) (out Ack (goes s Sending)) (cond (eqb v 0x00) (out Ack (goes s Call)) (out Nak (goes s Deaf))) (record { is = refl })
-      (either (eqb v 0x00) (out Ack (goes s Call)) (out Nak (goes s Deaf)) (record { is = refl }) (record { is = refl })))
+  plain-byte Opened v = plain-address v
   plain-byte Chosen v =
-      either (reserved p (v % 128)) (out Nak (goes s Deaf)) (out Ack (state (s .regs) (s .interrupt) (v % 128) (v / 128 % 2) (number Filling) (s .choice))) (record { is = refl }) (record { is = refl })
+      either (reserved p (v % 128)) (out Nak (goes s Deaf)) (out Ack (state (s .regs) (s .interrupt) (v % 128) (v / 128 % 2) (number Filling) (s .choice) (s .id))) (record { is = refl }) (record { is = refl })
   plain-byte Call v = either (eqb v 0x06) (out Ack (goes s Armed)) (out Nak (goes s Deaf)) (record { is = refl }) (record { is = refl })
   plain-byte Filling v = record { is = refl }
   plain-byte Armed v = record { is = refl }
   plain-byte Sending v = record { is = refl }
   plain-byte Idle v = record { is = refl }
   plain-byte Deaf v = record { is = refl }
+  plain-byte Asking v = either (ours s v) _ _ (record { is = refl }) (record { is = refl })
+  plain-byte Named v = record { is = refl }
+  plain-byte Reopened v = either (eqb v 0xf9) _ _ (record { is = refl }) (plain-address v)
+  plain-byte Telling v = record { is = refl }
 
   plain-fetch : (b : Bus) (acknowledged : Bool) → Plain (fetchIn p b s acknowledged)
   unfolding fetchIn
@@ -121,6 +128,10 @@ module _ (p : Part) (s : State) where
   plain-fetch Call a = record { is = refl }
   plain-fetch Armed a = record { is = refl }
   plain-fetch Deaf a = record { is = refl }
+  plain-fetch Asking a = record { is = refl }
+  plain-fetch Named a = record { is = refl }
+  plain-fetch Reopened a = record { is = refl }
+  plain-fetch Telling a = record { is = refl }
 
   plain : (e : Event) → Plain (step p s e)
   unfolding step
@@ -167,9 +178,6 @@ same-packed c w w' k k' e = ext-getD 0 w w' (k .fit .full ∙ sym (k' .fit .full
     core-same : stateIn (partOf c) w .regs ≡ stateIn (partOf c) w' .regs
     core-same = ap (λ (s : State). s .regs) e
 
-    none : (s : ℕ) → unused s ≡ true → getD w s 0 ≡ getD w' s 0
-    none s u = k .none s u ∙ sym (k' .none s u)
-
     word : (s : ℕ) → s < 28 → (a : Bool) → ltb s 4 ≡ a → (b : Bool) → ltb s 19 ≡ b → getD w s 0 ≡ getD w' s 0
     word s h true q b r = sets-word w w' (ap (λ (x : Core). x .sets) core-same) s (ltb-true s 4 q)
     word s h false q true r =
@@ -178,7 +186,7 @@ same-packed c w w' k k' e = ext-getD 0 w w' (k .fit .full ∙ sym (k' .fit .full
         let past : 19 ≤ s = ltb-false s 19 r in
         let z : s - 19 + 19 ≡ s = omega arith in
         rw z at (last-words (λ s. getD w s 0 ≡ getD w' s 0) (ap (λ (s : State). s .interrupt .status) e) (ap (λ (s : State). s .interrupt .line) e) (ap (λ (s : State). s .pointer) e) (ap (λ (s : State). s .bus) e)
-        (ap (λ (s : State). s .choice) e) (ap (λ (s : State). s .mode) e) (none 25 refl) (none 26 refl) (k .part-is ∙ sym (k' .part-is)) (s - 19) (omega arith))
+        (ap (λ (s : State). s .choice) e) (ap (λ (s : State). s .mode) e) (ap (λ (s : State). s .id .number) e) (ap (λ (s : State). s .id .place) e) (k .part-is ∙ sym (k' .part-is)) (s - 19) (omega arith))
 
 -- ---- a step, judged
 module _ (c : ℕ) (w : List ℕ) (kind arg : ℕ) where
@@ -199,11 +207,12 @@ pub bounded-of : (c : ℕ) (w : List ℕ) → Packed c w → Bounded c w
 bounded-of c w k = record {
   fit = k .fit;
   right = k .right;
-  none = k .none;
   pointer-small = known-small (rowAt (partOf c) (getD w 21 0)) c (getD w 21 0) (k .pointer-known) refl;
   mode-small = k .mode-small;
   bus-small = k .bus-small;
   choice-small = k .choice-small;
+  id-small = k .id-small;
+  place-small = k .place-small;
   part-is = k .part-is;
 }
 
@@ -216,11 +225,12 @@ module _ (c : ℕ) (hc : c < 2) (w : List ℕ) (b : Bounded c w) (row : ℕ) (e 
     known-part = hc;
     fit = b .fit;
     right = b .right;
-    none = b .none;
     pointer-known = sym (row-zero row c (getD w 21 0) (b .pointer-small) row-there) ∙ ne-eqb row 0 z;
     mode-small = b .mode-small;
     bus-small = b .bus-small;
     choice-small = b .choice-small;
+    id-small = b .id-small;
+    place-small = b .place-small;
     part-is = b .part-is;
   }
 

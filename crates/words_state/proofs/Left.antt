@@ -18,33 +18,21 @@ use Rattle.registers.specs.Registers.{Core}
 use Rattle.registers.specs.Interrupt.{Interrupt, workedOut}
 use Rattle.registers.proofs.Kept.{same-interrupt}
 use Rattle.registers.proofs.Writing.{same as same-core}
-use Rattle.device_rules.specs.Device.{State, Outcome, busAt, state, out, byteIn, step}
+use Rattle.device_rules.specs.Device.{State, Outcome, busAt, state, out, atPlace, byteIn, step}
 use Rattle.device_rules.specs.Device.Event.{ByteSent}
 use Rattle.device_rules.specs.declared.Answer.{Answer}
 use Rattle.device_rules.specs.declared.Answer.the-variants.{Nothing, Ack, Nak, Byte, Refused}
-use Rattle.device_rules.proofs.Stepping.{same-state, at-bus}
+use Rattle.device_rules.proofs.Stepping.{same-state, same-identity, at-bus}
 use Rattle.words.specs.Words.{coreIn, interruptIn, withInterrupt, Fit, Holds}
 use Rattle.words.proofs.Sound.{sound}
 use Rattle.words.proofs.Writing.{file-beside}
 use Rattle.words_rows.specs.Rows.{rowAt}
 use Rattle.words_rows.proofs.Taken.{row-zero}
-use Rattle.words_state.specs.Packed.{stateIn, answerAt, unused, Packed, Becomes, Leaves}
+use Rattle.words_state.specs.Packed.{idIn, stateIn, answerAt, Packed, Becomes, Leaves}
 
--- the unused words
-pub unused-case : (P : ℕ → Type 0) → P 25 → P 26 → (s : ℕ) → unused s ≡ true → P s
-unused-case P d e s u = go (eqb s 25) refl
-  where
-    go : (q : Bool) → eqb s 25 ≡ q → P s
-    go true r = rw (eqb-true s 25 r) d
-    go false r =
-        let h : 24 < s = ltb-true 24 s (and-left (ltb 24 s) (ltb s 27) u) in
-        let l : s < 27 = ltb-true s 27 (and-right (ltb 24 s) (ltb s 27) u) in
-        let q : s ≡ 26 = omega (arith, eqb-false s 25 r) in
-        rw q e
-
--- an unused word is past those that events change
-unused-past : (s : ℕ) → unused s ≡ true → 24 < s
-unused-past s u = ltb-true 24 s (and-left (ltb 24 s) (ltb s 27) u)
+-- a word below the Device ID's
+id-past : (w : List ℕ) (s x : ℕ) → s < 25 → idIn (set w s x) ≡ idIn w
+id-past w s x h = same-identity (getD-set-other w s 25 x 0 (λ e. omega (arith, e))) (getD-set-other w s 26 x 0 (λ e. omega (arith, e)))
 
 -- ---- a word past those of registers and pins
 module _ (c : ℕ) (w : List ℕ) (s x : ℕ) (past : 18 < s) where
@@ -77,11 +65,12 @@ module _ (c : ℕ) (w : List ℕ) (k : Packed c w) where
     known-part = k .known-part;
     fit = h .fit;
     right = h .right ∙ ap (workedOut (partOf c)) (sym (h .core));
-    none = λ s e. h .rest s (let p = unused-past s e in omega arith) ∙ k .none s e;
     pointer-known = ap (reserved (partOf c)) (h .rest 21 (omega arith)) ∙ k .pointer-known;
     mode-small = rw (h .rest 24 (omega arith)) (k .mode-small);
     bus-small = rw (h .rest 22 (omega arith)) (k .bus-small);
     choice-small = rw (h .rest 23 (omega arith)) (k .choice-small);
+    id-small = rw (h .rest 25 (omega arith)) (k .id-small);
+    place-small = rw (h .rest 26 (omega arith)) (k .place-small);
     part-is = h .rest 27 (omega arith) ∙ k .part-is;
   }
 
@@ -91,11 +80,12 @@ module _ (c : ℕ) (w : List ℕ) (k : Packed c w) where
     known-part = k .known-part;
     fit = fit-past c w 21 x (omega arith) (k .fit);
     right = right-past c w 21 x (omega arith) (k .right);
-    none = λ s u. getD-set-other w 21 s x 0 (let p = unused-past s u in λ z. omega (arith, z)) ∙ k .none s u;
     pointer-known = ap (reserved (partOf c)) (getD-set-same w 21 x 0 (omega (arith, k .fit .full))) ∙ e;
     mode-small = rw (getD-set-other w 21 24 x 0 (λ z. omega (arith, z))) (k .mode-small);
     bus-small = rw (getD-set-other w 21 22 x 0 (λ z. omega (arith, z))) (k .bus-small);
     choice-small = rw (getD-set-other w 21 23 x 0 (λ z. omega (arith, z))) (k .choice-small);
+    id-small = rw (getD-set-other w 21 25 x 0 (λ z. omega (arith, z))) (k .id-small);
+    place-small = rw (getD-set-other w 21 26 x 0 (λ z. omega (arith, z))) (k .place-small);
     part-is = getD-set-other w 21 27 x 0 (λ z. omega (arith, z)) ∙ k .part-is;
   }
 
@@ -105,43 +95,66 @@ module _ (c : ℕ) (w : List ℕ) (k : Packed c w) where
     known-part = k .known-part;
     fit = fit-past c w 24 m (omega arith) (k .fit);
     right = right-past c w 24 m (omega arith) (k .right);
-    none = λ s u. getD-set-other w 24 s m 0 (let p = unused-past s u in λ z. omega (arith, z)) ∙ k .none s u;
     pointer-known = ap (reserved (partOf c)) (getD-set-other w 24 21 m 0 (λ z. omega (arith, z))) ∙ k .pointer-known;
     mode-small = rw (getD-set-same w 24 m 0 (omega (arith, k .fit .full))) h;
     bus-small = rw (getD-set-other w 24 22 m 0 (λ z. omega (arith, z))) (k .bus-small);
     choice-small = rw (getD-set-other w 24 23 m 0 (λ z. omega (arith, z))) (k .choice-small);
+    id-small = rw (getD-set-other w 24 25 m 0 (λ z. omega (arith, z))) (k .id-small);
+    place-small = rw (getD-set-other w 24 26 m 0 (λ z. omega (arith, z))) (k .place-small);
     part-is = getD-set-other w 24 27 m 0 (λ z. omega (arith, z)) ∙ k .part-is;
   }
 
   -- the bus state changes
-  packed-bus : (b : ℕ) → b < 8 → Packed c (set w 22 b)
+  packed-bus : (b : ℕ) → b < 12 → Packed c (set w 22 b)
   packed-bus b h = record {
     known-part = k .known-part;
     fit = fit-past c w 22 b (omega arith) (k .fit);
     right = right-past c w 22 b (omega arith) (k .right);
-    none = λ s u. getD-set-other w 22 s b 0 (let p = unused-past s u in λ z. omega (arith, z)) ∙ k .none s u;
     pointer-known = ap (reserved (partOf c)) (getD-set-other w 22 21 b 0 (λ z. omega (arith, z))) ∙ k .pointer-known;
     mode-small = rw (getD-set-other w 22 24 b 0 (λ z. omega (arith, z))) (k .mode-small);
     bus-small = rw (getD-set-same w 22 b 0 (omega (arith, k .fit .full))) h;
     choice-small = rw (getD-set-other w 22 23 b 0 (λ z. omega (arith, z))) (k .choice-small);
+    id-small = rw (getD-set-other w 22 25 b 0 (λ z. omega (arith, z))) (k .id-small);
+    place-small = rw (getD-set-other w 22 26 b 0 (λ z. omega (arith, z))) (k .place-small);
     part-is = getD-set-other w 22 27 b 0 (λ z. omega (arith, z)) ∙ k .part-is;
   }
 
-  pub state-pointer : (x : ℕ) → stateIn (partOf c) (set w 21 x) ≡ state (coreIn (partOf c) w) (interruptIn w) x (getD w 24 0) (getD w 22 0) (getD w 23 0)
+  pub state-pointer : (x : ℕ) → stateIn (partOf c) (set w 21 x) ≡ state (coreIn (partOf c) w) (interruptIn w) x (getD w 24 0) (getD w 22 0) (getD w 23 0) (idIn w)
   state-pointer x =
       same-state (core-past c w 21 x (omega arith)) (interrupt-past c w 21 x (omega arith)) (getD-set-same w 21 x 0 (omega (arith, k .fit .full)))
-      (getD-set-other w 21 24 x 0 (λ z. omega (arith, z))) (getD-set-other w 21 22 x 0 (λ z. omega (arith, z))) (getD-set-other w 21 23 x 0 (λ z. omega (arith, z)))
+      (getD-set-other w 21 24 x 0 (λ z. omega (arith, z))) (getD-set-other w 21 22 x 0 (λ z. omega (arith, z))) (getD-set-other w 21 23 x 0 (λ z. omega (arith, z))) (id-past w 21 x (omega arith))
 
-  pub state-bus : (b : ℕ) → stateIn (partOf c) (set w 22 b) ≡ state (coreIn (partOf c) w) (interruptIn w) (getD w 21 0) (getD w 24 0) b (getD w 23 0)
+  pub state-bus : (b : ℕ) → stateIn (partOf c) (set w 22 b) ≡ state (coreIn (partOf c) w) (interruptIn w) (getD w 21 0) (getD w 24 0) b (getD w 23 0) (idIn w)
   state-bus b =
       same-state (core-past c w 22 b (omega arith)) (interrupt-past c w 22 b (omega arith)) (getD-set-other w 22 21 b 0 (λ z. omega (arith, z)))
       (getD-set-other w 22 24 b 0 (λ z. omega (arith, z)))
-      (getD-set-same w 22 b 0 (omega (arith, k .fit .full))) (getD-set-other w 22 23 b 0 (λ z. omega (arith, z)))
+      (getD-set-same w 22 b 0 (omega (arith, k .fit .full))) (getD-set-other w 22 23 b 0 (λ z. omega (arith, z))) (id-past w 22 b (omega arith))
 
-  state-mode : (m : ℕ) → stateIn (partOf c) (set w 24 m) ≡ state (coreIn (partOf c) w) (interruptIn w) (getD w 21 0) m (getD w 22 0) (getD w 23 0)
+  state-mode : (m : ℕ) → stateIn (partOf c) (set w 24 m) ≡ state (coreIn (partOf c) w) (interruptIn w) (getD w 21 0) m (getD w 22 0) (getD w 23 0) (idIn w)
   state-mode m =
       same-state (core-past c w 24 m (omega arith)) (interrupt-past c w 24 m (omega arith)) (getD-set-other w 24 21 m 0 (λ z. omega (arith, z)))
-      (getD-set-same w 24 m 0 (omega (arith, k .fit .full))) (getD-set-other w 24 22 m 0 (λ z. omega (arith, z))) (getD-set-other w 24 23 m 0 (λ z. omega (arith, z)))
+      (getD-set-same w 24 m 0 (omega (arith, k .fit .full))) (getD-set-other w 24 22 m 0 (λ z. omega (arith, z))) (getD-set-other w 24 23 m 0 (λ z. omega (arith, z))) (id-past w 24 m (omega arith))
+
+  -- the place of the Device ID's next byte changes
+  pub packed-place : (x : ℕ) → x < 3 → Packed c (set w 26 x)
+  packed-place x h = record {
+    known-part = k .known-part;
+    fit = fit-past c w 26 x (omega arith) (k .fit);
+    right = right-past c w 26 x (omega arith) (k .right);
+    pointer-known = ap (reserved (partOf c)) (getD-set-other w 26 21 x 0 (λ z. omega (arith, z))) ∙ k .pointer-known;
+    mode-small = rw (getD-set-other w 26 24 x 0 (λ z. omega (arith, z))) (k .mode-small);
+    bus-small = rw (getD-set-other w 26 22 x 0 (λ z. omega (arith, z))) (k .bus-small);
+    choice-small = rw (getD-set-other w 26 23 x 0 (λ z. omega (arith, z))) (k .choice-small);
+    id-small = rw (getD-set-other w 26 25 x 0 (λ z. omega (arith, z))) (k .id-small);
+    place-small = rw (getD-set-same w 26 x 0 (omega (arith, k .fit .full))) h;
+    part-is = getD-set-other w 26 27 x 0 (λ z. omega (arith, z)) ∙ k .part-is;
+  }
+
+  pub state-place : (x : ℕ) → stateIn (partOf c) (set w 26 x) ≡ atPlace (stateIn (partOf c) w) x
+  state-place x =
+      same-state (core-past c w 26 x (omega arith)) (interrupt-past c w 26 x (omega arith)) (getD-set-other w 26 21 x 0 (λ z. omega (arith, z)))
+      (getD-set-other w 26 24 x 0 (λ z. omega (arith, z))) (getD-set-other w 26 22 x 0 (λ z. omega (arith, z))) (getD-set-other w 26 23 x 0 (λ z. omega (arith, z)))
+      (same-identity (getD-set-other w 26 25 x 0 (λ z. omega (arith, z))) (getD-set-same w 26 x 0 (omega (arith, k .fit .full))))
 
 -- ---- registers and pins changed, and the interrupt with them
 module _ (c : ℕ) (w u : List ℕ) {after : Core} (h : Holds (partOf c) w u after) where
@@ -177,16 +190,20 @@ module _ (c : ℕ) (w : List ℕ) (k : Packed c w) (a : Answer) where
   pub left-same : {o : Outcome} → out a (stateIn (partOf c) w) ≡ o → Leaves c w a o
   left-same q = record { outcome = q; packed = k }
 
-  pub left-bus : (b : ℕ) → b < 8 → {o : Outcome} → out a (state (coreIn (partOf c) w) (interruptIn w) (getD w 21 0) (getD w 24 0) b (getD w 23 0)) ≡ o → Leaves c (set w 22 b) a o
+  pub left-bus : (b : ℕ) → b < 12 → {o : Outcome} → out a (state (coreIn (partOf c) w) (interruptIn w) (getD w 21 0) (getD w 24 0) b (getD w 23 0) (idIn w)) ≡ o → Leaves c (set w 22 b) a o
   left-bus b h q = record { outcome = ap (out a) (state-bus c w k b) ∙ q; packed = packed-bus c w k b h }
 
-  pub left-pointer : (x : ℕ) → reserved (partOf c) x ≡ false → {o : Outcome} → out a (state (coreIn (partOf c) w) (interruptIn w) x (getD w 24 0) (getD w 22 0) (getD w 23 0)) ≡ o → Leaves c (set w 21 x) a o
+  pub left-pointer : (x : ℕ) → reserved (partOf c) x ≡ false → {o : Outcome} → out a (state (coreIn (partOf c) w) (interruptIn w) x (getD w 24 0) (getD w 22 0) (getD w 23 0) (idIn w)) ≡ o → Leaves c (set w 21 x) a o
   left-pointer x h q = record { outcome = ap (out a) (state-pointer c w k x) ∙ q; packed = packed-pointer c w k x h }
 
   -- the answer and the words as a function has them
-  pub went : (b : ℕ) → b < 8 → {a' : Answer} {w' : List ℕ} {o : Outcome} → a' ≡ a → w' ≡ set w 22 b
-      → out a (state (coreIn (partOf c) w) (interruptIn w) (getD w 21 0) (getD w 24 0) b (getD w 23 0)) ≡ o → Leaves c w' a' o
+  pub went : (b : ℕ) → b < 12 → {a' : Answer} {w' : List ℕ} {o : Outcome} → a' ≡ a → w' ≡ set w 22 b
+      → out a (state (coreIn (partOf c) w) (interruptIn w) (getD w 21 0) (getD w 24 0) b (getD w 23 0) (idIn w)) ≡ o → Leaves c w' a' o
   went b h ea ew q = rw (ea, ew) (left-bus b h q)
+
+  -- the Device ID is told on
+  pub told : (x : ℕ) → x < 3 → {w' : List ℕ} {o : Outcome} → w' ≡ set w 26 x → out a (atPlace (stateIn (partOf c) w) x) ≡ o → Leaves c w' a o
+  told x h ew q = rw ew (record { outcome = ap (out a) (state-place c w k x) ∙ q; packed = packed-place c w k x h })
 
 -- the same after a change of registers and pins
 module _ (c : ℕ) (w u : List ℕ) (k : Packed c w) (after : Core) (h : Becomes c w u after) (a : Answer) where
@@ -194,26 +211,29 @@ module _ (c : ℕ) (w u : List ℕ) (k : Packed c w) (after : Core) (h : Becomes
   beside : (s : ℕ) → 20 < s → getD u s 0 ≡ getD w s 0
   beside = h .rest
 
-  pub holds-left : {o : Outcome} → out a (state after (workedOut (partOf c) after) (getD w 21 0) (getD w 24 0) (getD w 22 0) (getD w 23 0)) ≡ o → Leaves c u a o
+  its-id : idIn u ≡ idIn w
+  its-id = same-identity (h .rest 25 (omega arith)) (h .rest 26 (omega arith))
+
+  pub holds-left : {o : Outcome} → out a (state after (workedOut (partOf c) after) (getD w 21 0) (getD w 24 0) (getD w 22 0) (getD w 23 0) (idIn w)) ≡ o → Leaves c u a o
   holds-left q =
       left-same c u (packed-becomes c w k h) a
-      (ap (out a) (same-state (h .core) (h .right) (beside 21 (omega arith)) (beside 24 (omega arith)) (beside 22 (omega arith)) (beside 23 (omega arith))) ∙ q)
+      (ap (out a) (same-state (h .core) (h .right) (beside 21 (omega arith)) (beside 24 (omega arith)) (beside 22 (omega arith)) (beside 23 (omega arith)) its-id) ∙ q)
 
-  pub holds-bus : (b : ℕ) → b < 8 → {o : Outcome} → out a (state after (workedOut (partOf c) after) (getD w 21 0) (getD w 24 0) b (getD w 23 0)) ≡ o → Leaves c (set u 22 b) a o
+  pub holds-bus : (b : ℕ) → b < 12 → {o : Outcome} → out a (state after (workedOut (partOf c) after) (getD w 21 0) (getD w 24 0) b (getD w 23 0) (idIn w)) ≡ o → Leaves c (set u 22 b) a o
   holds-bus b l q =
-      left-bus c u (packed-becomes c w k h) a b l (ap (out a) (same-state (h .core) (h .right) (beside 21 (omega arith)) (beside 24 (omega arith)) refl (beside 23 (omega arith))) ∙ q)
+      left-bus c u (packed-becomes c w k h) a b l (ap (out a) (same-state (h .core) (h .right) (beside 21 (omega arith)) (beside 24 (omega arith)) refl (beside 23 (omega arith)) its-id) ∙ q)
 
-  pub holds-pointer : (x : ℕ) → reserved (partOf c) x ≡ false → {o : Outcome} → out a (state after (workedOut (partOf c) after) x (getD w 24 0) (getD w 22 0) (getD w 23 0)) ≡ o → Leaves c (set u 21 x) a o
+  pub holds-pointer : (x : ℕ) → reserved (partOf c) x ≡ false → {o : Outcome} → out a (state after (workedOut (partOf c) after) x (getD w 24 0) (getD w 22 0) (getD w 23 0) (idIn w)) ≡ o → Leaves c (set u 21 x) a o
   holds-pointer x l q =
-      left-pointer c u (packed-becomes c w k h) a x l (ap (out a) (same-state (h .core) (h .right) refl (beside 24 (omega arith)) (beside 22 (omega arith)) (beside 23 (omega arith))) ∙ q)
+      left-pointer c u (packed-becomes c w k h) a x l (ap (out a) (same-state (h .core) (h .right) refl (beside 24 (omega arith)) (beside 22 (omega arith)) (beside 23 (omega arith)) its-id) ∙ q)
 
-pub chose : (c : ℕ) (w : List ℕ) → Packed c w → (a : Answer) (x m b : ℕ) → reserved (partOf c) x ≡ false → m < 2 → b < 8 → {a' : Answer} {w' : List ℕ} {o : Outcome}
-    → a' ≡ a → w' ≡ set (set (set w 21 x) 24 m) 22 b → out a (state (coreIn (partOf c) w) (interruptIn w) x m b (getD w 23 0)) ≡ o → Leaves c w' a' o
+pub chose : (c : ℕ) (w : List ℕ) → Packed c w → (a : Answer) (x m b : ℕ) → reserved (partOf c) x ≡ false → m < 2 → b < 12 → {a' : Answer} {w' : List ℕ} {o : Outcome}
+    → a' ≡ a → w' ≡ set (set (set w 21 x) 24 m) 22 b → out a (state (coreIn (partOf c) w) (interruptIn w) x m b (getD w 23 0) (idIn w)) ≡ o → Leaves c w' a' o
 chose c w k a x m b e hm h ea ew q =
     let pointed = packed-pointer c w k x e in
     went c (set (set w 21 x) 24 m) (packed-mode c (set w 21 x) pointed m hm) a b h ea ew
-    (ap (λ (s : State). out a (state (s .regs) (s .interrupt) (s .pointer) (s .mode) b (s .choice))) (state-mode c (set w 21 x) pointed m)
-    ∙ ap (λ (s : State). out a (state (s .regs) (s .interrupt) (s .pointer) m b (s .choice))) (state-pointer c w k x) ∙ q)
+    (ap (λ (s : State). out a (state (s .regs) (s .interrupt) (s .pointer) (s .mode) b (s .choice) (s .id))) (state-mode c (set w 21 x) pointed m)
+    ∙ ap (λ (s : State). out a (state (s .regs) (s .interrupt) (s .pointer) m b (s .choice) (s .id))) (state-pointer c w k x) ∙ q)
 
 -- ---- a command
 pub command-row : (part row v : ℕ) → row ≡ rowAt (partOf part) (v % 128) → eqb row 0 ≡ reserved (partOf part) (v % 128)

@@ -1,13 +1,12 @@
 -- The state that the words hold, which words are the packing of a well-formed image, and what a step on them promises.
 use mathlib.Core.Path.{_≡_}
-use mathlib.Core.Bool.{Bool, false, true, _&&_}
+use mathlib.Core.Bool.{false}
 use mathlib.Core.List.{List, [], _∷_}
 use Prim.Native.Nat.{ℕ, zero, suc, _-_, _/_, _%_, _^_, _<_}
 use lib.Bits.{bitOr}
-use lib.Dec.{ltb}
 use lib.ListN.{getD}
 use Rattle.map.specs.Map.{Part, reserved, partOf}
-use Rattle.device_rules.specs.Device.{State, Outcome, state, out}
+use Rattle.device_rules.specs.Device.{Identity, State, Outcome, identity, state, out}
 use Rattle.device_rules.specs.declared.Answer.{Answer}
 use Rattle.device_rules.specs.declared.Answer.the-variants.{Nothing, Ack, Nak, Byte, Refused}
 use Rattle.device_rules.specs.Refusals.{stepped}
@@ -29,26 +28,33 @@ choiceWord = 23
 abbrev pub modeWord : ℕ
 modeWord = 24
 
+-- the Device ID: its number, its place
+abbrev pub idWord : ℕ
+idWord = 25
+
+abbrev pub placeWord : ℕ
+placeWord = 26
+
 abbrev pub partWord : ℕ
 partWord = 27
 
-abbrev pub stateIn : Part → List ℕ → State
-stateIn p w = state (coreIn p w) (interruptIn w) (getD w pointerWord 0) (getD w modeWord 0) (getD w busWord 0) (getD w choiceWord 0)
+abbrev pub idIn : List ℕ → Identity
+idIn w = identity (getD w idWord 0) (getD w placeWord 0)
 
--- words that nothing uses yet
-abbrev pub unused : ℕ → Bool
-unused s = ltb 24 s && ltb s 27
+abbrev pub stateIn : Part → List ℕ → State
+stateIn p w = state (coreIn p w) (interruptIn w) (getD w pointerWord 0) (getD w modeWord 0) (getD w busWord 0) (getD w choiceWord 0) (idIn w)
 
 -- the words are the packing of a well-formed image of part c: what is kept of the interrupt is what the rules work out
 pub record Packed (c : ℕ) (w : List ℕ) : Type 0 where
   pub known-part : c < 2
   pub fit : Fit (partOf c) w
   pub right : interruptIn w ≡ workedOut (partOf c) (coreIn (partOf c) w)
-  pub none : (s : ℕ) → unused s ≡ true → getD w s 0 ≡ 0
   pub pointer-known : reserved (partOf c) (getD w pointerWord 0) ≡ false
   pub mode-small : getD w modeWord 0 < 2
-  pub bus-small : getD w busWord 0 < 8
+  pub bus-small : getD w busWord 0 < 12
   pub choice-small : getD w choiceWord 0 < 4
+  pub id-small : getD w idWord 0 < 2 ^ 24
+  pub place-small : getD w placeWord 0 < 3
   pub part-is : getD w partWord 0 ≡ c
 
 -- the words are the packing of a well-formed image of the part that they name, and the row is that of a number of it
@@ -88,11 +94,12 @@ pub record Judged (c : ℕ) (w : List ℕ) (row : ℕ) : Type 0 where
 pub record Bounded (c : ℕ) (w : List ℕ) : Type 0 where
   pub fit : Fit (partOf c) w
   pub right : interruptIn w ≡ workedOut (partOf c) (coreIn (partOf c) w)
-  pub none : (s : ℕ) → unused s ≡ true → getD w s 0 ≡ 0
   pub pointer-small : getD w pointerWord 0 < 128
   pub mode-small : getD w modeWord 0 < 2
-  pub bus-small : getD w busWord 0 < 8
+  pub bus-small : getD w busWord 0 < 12
   pub choice-small : getD w choiceWord 0 < 4
+  pub id-small : getD w idWord 0 < 2 ^ 24
+  pub place-small : getD w placeWord 0 < 3
   pub part-is : getD w partWord 0 ≡ c
 
 -- the bits that exist in each word of the part: of a pin set, of the output port kind, of debounce enable and of debounce count
@@ -108,6 +115,6 @@ unionTo w zero = getD w 0 0
 unionTo w (suc n) = bitOr (unionTo w n) (getD w (suc n) 0)
 
 -- the words after a reset but for the pins: no status bit, INT quiet
-abbrev pub resetWords : (pins choice part : ℕ) → List ℕ
-resetWords pins choice part =
-    0 ∷ 0 ∷ 0 ∷ 0 ∷ pins ∷ 0 ∷ pins ∷ 0 ∷ 0 ∷ 0 ∷ pins ∷ 0 ∷ 0 ∷ pins ∷ pins ∷ 0 ∷ pins ∷ 0 ∷ 0 ∷ 0 ∷ 1 ∷ 0 ∷ 0 ∷ choice ∷ 0 ∷ 0 ∷ 0 ∷ part ∷ []
+abbrev pub resetWords : (pins choice id part : ℕ) → List ℕ
+resetWords pins choice id part =
+    0 ∷ 0 ∷ 0 ∷ 0 ∷ pins ∷ 0 ∷ pins ∷ 0 ∷ 0 ∷ 0 ∷ pins ∷ 0 ∷ 0 ∷ pins ∷ pins ∷ 0 ∷ pins ∷ 0 ∷ 0 ∷ 0 ∷ 1 ∷ 0 ∷ 0 ∷ choice ∷ 0 ∷ id ∷ 0 ∷ part ∷ []

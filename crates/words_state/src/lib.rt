@@ -11,6 +11,7 @@ use device_rules::Answer;
 use words::BUS;
 use words::CHOICE;
 use words::CONFIGURATION;
+use words::ID;
 use words::LINE;
 use words::MASK;
 use words::OUTPUT;
@@ -76,8 +77,8 @@ pub fn goes(words: &mut [u64; 28], bus: u64, answer: u32) -> u32
 }
 
 // The words after a reset but for the pins, of a part whose pins are these: the one place in code where the defaults stand.
-pub fn put_defaults(words: &mut [u64; 28], pins: u64, choice: u64, part: u64)
-    ensures { λ r. ⌜ now (words .exit) ≡ resetWords pins choice part ⌝ }
+pub fn put_defaults(words: &mut [u64; 28], pins: u64, choice: u64, id: u64, part: u64)
+    ensures { λ r. ⌜ now (words .exit) ≡ resetWords pins choice id part ⌝ }
 {
     *words = [0; 28];
     words[CONFIGURATION] = pins;
@@ -88,6 +89,7 @@ pub fn put_defaults(words: &mut [u64; 28], pins: u64, choice: u64, part: u64)
     words[PULL_SELECT] = pins;
     words[LINE] = QUIET;
     words[CHOICE] = choice;
+    words[ID] = id;
     words[PART] = part;
 }
 
@@ -100,7 +102,8 @@ pub fn reset(words: &mut [u64; 28], pins: u64)
     let x = words::sets_in(&*words);
     let y = pins_marks::reset_pins(x);
     let choice = words[CHOICE];
+    let id = words[ID];
     let part = words[PART];
-    put_defaults(words, pins, choice, part);
+    put_defaults(words, pins, choice, id, part);
     words::put_sets(words, y);
 }

@@ -11,9 +11,9 @@ returns c = to-none _ _ _ _ _ (λ k. clash _ (c .before .fits2 .ensures .1 k) (n
 
 returns-2 : tie.Need-returns-2
 returns-2 c =
-    let filed = c .before .before .before .before .before .before .before .before .before .before .before .before in
+    let filed = c .before .before .before .before .before .before .before .before .before .before .before .before .before .before in
     let else = filed .before .before in
     to-image _ _ _ _ _ _ (else .before .fits2 .ensures .0 (not-false _ (else .if1 .left))) (filed .to-file .ensures)
 
 pub unpack-spec : {M : Type 1} → statement M
-unpack-spec = tie.close (tie.spec (λ c κs. search needs) returns (λ c κs. search needs) (λ c. search needs) (λ c. search needs) (λ c. search needs) (λ c. search needs) (λ c. search needs) (λ c. search needs) (λ c. search needs) (λ c. search needs) (λ c. search needs) (λ c. search needs) returns-2)
+unpack-spec = tie.close (tie.spec (λ c κs. search needs) returns (λ c κs. search needs) (λ c. search needs) (λ c. search needs) (λ c. search needs) (λ c. search needs) (λ c. search needs) (λ c. search needs) (λ c. search needs) (λ c. search needs) (λ c. search needs) (λ c. search needs) (λ c. search needs) (λ c. search needs) returns-2)

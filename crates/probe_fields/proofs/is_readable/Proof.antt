@@ -11,10 +11,10 @@ use Rattle.probe_fields.proofs.is_readable.Statement.{statement}
 use Rattle.probe_fields.proofs.is_readable.Tie as tie
 
 abbrev Inv-loop : tie.InvT-loop
-Inv-loop line i₀ i = (i ≤ 382) × (readable line ≡ hasForm (drop i lineForm) (drop i line))
+Inv-loop line i₀ i = (i ≤ 394) × (readable line ≡ hasForm (drop i lineForm) (drop i line))
 
 abbrev μ-loop : tie.MeasureT-loop
-μ-loop line i₀ i = 382 - i
+μ-loop line i₀ i = 394 - i
 
 returns : tie.Need-returns Inv-loop μ-loop
 returns c = sym (other-length _ (c .if1 .taken))
@@ -40,7 +40,7 @@ returns-3 : tie.Need-returns-3 Inv-loop μ-loop
 returns-3 c =
     let l = c .before in
     let line = l .before .before .before .args .line .now in
-    let e : l .loop .i ≡ 382 = omega arith in
+    let e : l .loop .i ≡ 394 = omega arith in
     sym (l .loop .inv .1 ∙ ap (λ (k : ℕ). hasForm (drop k lineForm) (drop k line)) e ∙ form-done line (search needs))
 
 pub is-readable-spec : {M : Type 1} → statement M

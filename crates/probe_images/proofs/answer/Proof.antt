@@ -10,7 +10,7 @@ use Rattle.probe_images.proofs.answer.Tie as tie
 part-answer-line-end : tie.Need-part-answer-line-end
 part-answer-line-end c =
     let s = c .before .before .before in
-    let all : length (s .args .line .held) ≡ 383 = search needs in
+    let all : length (s .args .line .held) ≡ 395 = search needs in
     omega (arith, all, s .pre .1)
 
 returns : tie.Need-returns

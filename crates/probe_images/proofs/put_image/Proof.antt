@@ -1,4 +1,4 @@
--- `probe_images::put_image`: a tab and the registers, the sets, the bus, the interrupt, the mode: one text after the other. Assumes nothing.
+-- `probe_images::put_image`: a tab and the registers, the sets, the bus, the interrupt, the mode and the Device ID: one text after the other. Assumes nothing.
 use borrow.Author.Needs.{needs}
 use Rattle.text.proofs.Laws.{wrote-as, wrote-both}
 use Rattle.probe_images.proofs.Told.{image-text}
@@ -13,7 +13,7 @@ returns c =
     let s = b .before .before .before .before in
     let y = s .before .before .before .before in
     let t = y .before .before .before .before .before in (
-      wrote-as (image-text _) (wrote-both (t .put .ensures) (wrote-both (y .put-bytes .ensures .0) (wrote-both (s .put-sets .ensures .0) (wrote-both (b .put-bus .ensures .0) (wrote-both (k .put-interrupt .ensures .0) (m .put-mode .ensures .0)))))),
+      wrote-as (image-text _) (wrote-both (t .put .ensures) (wrote-both (y .put-bytes .ensures .0) (wrote-both (s .put-sets .ensures .0) (wrote-both (b .put-bus .ensures .0) (wrote-both (k .put-interrupt .ensures .0) (m .put-last .ensures .0)))))),
       search needs,
     )
 

@@ -8,7 +8,7 @@ use Rattle.probe_program.proofs.answer_piece.Statement.{statement}
 use Rattle.probe_program.proofs.answer_piece.Tie as tie
 
 abbrev Inv-loop : tie.InvT-loop
-Inv-loop part piece out₀ begun₀ rest₀ end₀ out begun rest end = (length out ≡ length out₀) × (length rest ≤ length piece) × (end ≤ 65536) × (begun .len ≤ 383)
+Inv-loop part piece out₀ begun₀ rest₀ end₀ out begun rest end = (length out ≡ length out₀) × (length rest ≤ length piece) × (end ≤ 65536) × (begun .len ≤ 395)
 
 abbrev μ-loop : tie.MeasureT-loop
 μ-loop part piece out₀ begun₀ rest₀ end₀ out begun rest end = length rest

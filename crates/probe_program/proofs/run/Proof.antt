@@ -7,7 +7,7 @@ use Rattle.probe_program.proofs.run.Statement.{statement}
 use Rattle.probe_program.proofs.run.Tie as tie
 
 abbrev Inv-loop : tie.InvT-loop
-Inv-loop part piece₀ out₀ line₀ turns₀ piece out line turns = (length piece ≡ 16384) × (length out ≡ 65536) × (line .len ≤ 383)
+Inv-loop part piece₀ out₀ line₀ turns₀ piece out line turns = (length piece ≡ 16384) × (length out ≡ 65536) × (line .len ≤ 395)
 
 abbrev μ-loop : tie.MeasureT-loop
 μ-loop part piece₀ out₀ line₀ turns₀ piece out line turns = turns

@@ -12,9 +12,10 @@ use Rattle.words_bus.proofs.byte.Statement.{statement}
 use Rattle.words_bus.proofs.byte.Tie as tie
 
 returns : tie.Need-returns
+unfolding byteIn
 returns c =
     let a = c .before .before .before .before .args in
-    λ k packed z er. in-bus k (a .words .now) (a .value) 1 (c .before .before .match .keys1) (c .byte-opened .ensures k packed)
+    λ k packed z er. in-bus k (a .words .now) (a .value) 1 (c .before .before .match .keys1) (c .address .ensures k packed)
 
 returns-2 : tie.Need-returns-2
 returns-2 c =
@@ -35,9 +36,19 @@ returns-4 c =
 returns-5 : tie.Need-returns-5
 returns-5 c =
     let a = c .before .before .before .before .args in
+    λ k packed z er. in-bus k (a .words .now) (a .value) 8 (c .before .before .match .keys5) (c .asked .ensures k packed)
+
+returns-6 : tie.Need-returns-6
+returns-6 c =
+    let a = c .before .before .before .before .args in
+    λ k packed z er. in-bus k (a .words .now) (a .value) 10 (c .before .before .match .keys6) (c .asked-again .ensures k packed)
+
+returns-7 : tie.Need-returns-7
+returns-7 c =
+    let a = c .before .before .before .before .args in
     let rest = c .before .before .match .rest in
     λ k packed z er. went k (a .words .now) packed Nak 7 (omega arith) (ap answerAt (c .goes .ensures .0)) (c .goes .ensures .1)
-    (no-byte (partOf k) (stateIn (partOf k) (a .words .now)) (a .value) (packed .bus-small) (rest .1) (rest .0 .0 .0 .1) z (rest .0 .0 .1) (rest .0 .1))
+    (no-byte (partOf k) (stateIn (partOf k) (a .words .now)) (a .value) (packed .bus-small) (rest .0 .0 .1) (rest .0 .0 .0 .0 .0 .1) z (rest .0 .0 .0 .0 .1) (rest .0 .0 .0 .1) (rest .0 .1) (rest .1))
 
 pub byte-spec : {M : Type 1} → statement M
 byte-spec =
@@ -48,8 +59,12 @@ byte-spec =
     (λ c κs. search needs)
     (λ c κs. search needs)
     (λ c κs. search needs)
+    (λ c κs. search needs)
+    (λ c κs. search needs)
     returns
     returns-2
     returns-3
     returns-4
-    returns-5)
+    returns-5
+    returns-6
+    returns-7)

@@ -35,7 +35,7 @@ returns c =
     let q = next-of (a .row) k n known e (c .successor .ensures k n hn e) in
     holds-pointer k w _ packed _ becomes Ack (c .successor .result) (rw q (next-known (a .row) k n known e))
     (ap (λ (s : State). out Ack s)
-    (same-state refl (sym kept) (q ∙ in-group (partOf k) (getD w 24 0) n (sym (becomes .rest 24 (omega arith)) ∙ c .before .if1 .taken)) refl bus refl))
+    (same-state refl (sym kept) (q ∙ in-group (partOf k) (getD w 24 0) n (sym (becomes .rest 24 (omega arith)) ∙ c .before .if1 .taken)) refl bus refl refl))
 
 returns-2 : tie.Need-returns-2
 unfolding byteIn
@@ -54,7 +54,7 @@ returns-2 c =
     rw (c .steps-over-map .ensures .0, c .steps-over-map .ensures .1 k (packed-becomes k w packed becomes), same)
     (holds-pointer k w _ packed _ becomes Ack (onward (partOf k) n) (onward-known k n known)
     (ap (λ (s : State). out Ack s)
-    (same-state refl (sym kept) (over-map (partOf k) (getD w 24 0) n (packed .mode-small) (λ z. else .if1 .left (becomes .rest 24 (omega arith) ∙ z))) refl bus refl)))
+    (same-state refl (sym kept) (over-map (partOf k) (getD w 24 0) n (packed .mode-small) (λ z. else .if1 .left (becomes .rest 24 (omega arith) ∙ z))) refl bus refl refl)))
 
 steps-over-map-requires : tie.Need-steps-over-map-requires
 steps-over-map-requires c κs =

@@ -11,8 +11,7 @@ use Rattle.device_rules.specs.declared.Answer.the-variants.{Nothing, Refused}
 use Rattle.device_rules.proofs.Stepping.{same-state}
 use Rattle.registers.proofs.Kept.{kept-levelled}
 use Rattle.words.specs.Words.{coreIn, interruptIn}
-use Rattle.words_state.specs.Packed.{answerAt}
-use Rattle.words_state.proofs.Left.{left-same, went, holds-left, by-rule}
+use Rattle.words_state.proofs.Left.{left-same, holds-left, by-rule}
 use Rattle.words_state.proofs.Standing.{pin-levels}
 use Rattle.words_state.proofs.Judging.{taken, wrong-argument, wrong-kind, none-of-six}
 use Rattle.words_bus.proofs.event.Statement.{statement}
@@ -38,11 +37,9 @@ returns-3 c =
     (le-ltb (a .arg) (2 ^ partOf k .width) (let h = c .if3 .taken in omega (arith, e, pow-pos (partOf k .width)))))
 
 returns-4 : tie.Need-returns-4
-unfolding step
 returns-4 c =
     let a = c .before .before .before .args in
-    λ k packed e er z. went k (a .words .now) packed Nothing 1 (omega arith) (ap answerAt (c .goes .ensures .0)) (c .goes .ensures .1)
-    (taken k (a .words .now) packed (a .kind) (a .arg) 0 (c .before .before .match .keys1) refl refl)
+    λ k packed e er z. by-rule (c .start .ensures k packed) (taken k (a .words .now) packed (a .kind) (a .arg) 0 (c .before .before .match .keys1) refl refl)
 
 returns-5 : tie.Need-returns-5
 returns-5 c =
@@ -70,7 +67,7 @@ returns-8 c =
     let w = a .words .now in
     let kept = kept-levelled (partOf k) (coreIn (partOf k) w) (interruptIn w) (packed .right) (a .arg) in
     holds-left k w _ packed _ (c .set-levels .ensures k packed small) Nothing
-    (ap (out Nothing) (same-state refl (sym kept) refl refl refl refl)
+    (ap (out Nothing) (same-state refl (sym kept) refl refl refl refl refl)
     ∙ taken k (a .words .now) packed (a .kind) (a .arg) 4 (c .before .before .before .match .keys5) refl (lt-ltb (a .arg) (2 ^ partOf k .width) small))
 
 returns-9 : tie.Need-returns-9

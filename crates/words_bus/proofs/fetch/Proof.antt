@@ -15,13 +15,13 @@ use Rattle.registers.proofs.Kept.{kept-fetched, unrung-fetched}
 use Rattle.device_rules.specs.Device.{shownIn, fetchIn, step}
 use Rattle.device_rules.specs.Device.Event.{ByteFetched}
 use Rattle.device_rules.specs.declared.Answer.the-variants.{Byte}
-use Rattle.device_rules.proofs.Stepping.{same-state, same-outcome, sending, stray-fetch}
+use Rattle.device_rules.proofs.Stepping.{same-state, same-outcome, fetched-in}
 use Rattle.words.specs.Words.{coreIn, interruptIn}
 use Rattle.words.proofs.Sound.{sound}
 use Rattle.words.proofs.Seen.{other-fetched}
 use Rattle.words_rows.proofs.Taken.{step-known, known-inside, its-kind, low-rule}
 use Rattle.words_state.specs.Packed.{stateIn, Packed, Becomes, Leaves}
-use Rattle.words_state.proofs.Left.{unrung, packed-becomes, left-same, holds-bus, holds-pointer}
+use Rattle.words_state.proofs.Left.{unrung, packed-becomes, holds-bus, holds-pointer}
 use Rattle.words_state.proofs.Standing.{named, known-row}
 use Rattle.words_bus.proofs.fetch.Statement.{statement}
 use Rattle.words_bus.proofs.fetch.Tie as tie
@@ -34,20 +34,16 @@ unfolding fetchIn
 went-on c w u packed becomes bus b shown true e =
     rw (e, becomes .rest 21 (omega arith), becomes .rest 24 (omega arith))
     (holds-pointer c w u packed _ becomes (Byte b) (nextIn (partOf c) (getD w 24 0) (getD w 21 0)) (step-known _ c (getD w 21 0) (packed .pointer-known) refl (getD w 24 0))
-    (sending (partOf c) (stateIn (partOf c) w) true bus
-    (same-outcome (ap Byte shown) (same-state refl (sym (kept-fetched (partOf c) (coreIn (partOf c) w) (interruptIn w) (packed .right) (getD w 21 0))) refl refl bus refl))))
+    (fetched-in (partOf c) (stateIn (partOf c) w) true 4 bus
+    (same-outcome (ap Byte shown) (same-state refl (sym (kept-fetched (partOf c) (coreIn (partOf c) w) (interruptIn w) (packed .right) (getD w 21 0))) refl refl bus refl refl))))
 went-on c w u packed becomes bus b shown false e =
     rw e
     (holds-bus c w u packed _ becomes (Byte b) 7 (omega arith)
-    (sending (partOf c) (stateIn (partOf c) w) false bus
-    (same-outcome (ap Byte shown) (same-state refl (sym (kept-fetched (partOf c) (coreIn (partOf c) w) (interruptIn w) (packed .right) (getD w 21 0))) refl refl refl refl))))
+    (fetched-in (partOf c) (stateIn (partOf c) w) false 4 bus
+    (same-outcome (ap Byte shown) (same-state refl (sym (kept-fetched (partOf c) (coreIn (partOf c) w) (interruptIn w) (packed .right) (getD w 21 0))) refl refl refl refl refl))))
 
 returns : tie.Need-returns
-returns c =
-    let a = c .before .before .before .args in
-    λ k packed e.
-    rw (c .read .ensures)
-    (left-same k (a .words .now) packed (Byte 255) (stray-fetch (partOf k) (stateIn (partOf k) (a .words .now)) (a .acknowledged) (c .before .if1 .taken)))
+returns c = λ k packed e. c .fetch-elsewhere .ensures k packed (c .before .before .if1 .taken)
 
 was-fetched-requires : tie.Need-was-fetched-requires
 was-fetched-requires c κs =
@@ -71,7 +67,7 @@ returns-2 c =
     let hn : n < 128 = known-small (partOf k) n (packed .pointer-known) in
     let input = its-kind k n _ hn (rule .rule .ensures k n hn e) Input (then .if2 .taken) in
     let becomes = settle .settle .ensures k packed e in
-    rw (c .was-fetched .ensures .0, read .read2 .ensures)
+    rw (c .was-fetched .ensures .0, read .read .ensures)
     (went-on k w _ packed becomes (sends .if1 .left) _ (show .show-inputs .ensures k n (packed .pointer-known) e .0 input) (a .acknowledged)
     (c .was-fetched .ensures .1 k (packed-becomes k w packed becomes) (rw (becomes .rest 21 (omega arith)) e)))
 
@@ -92,7 +88,7 @@ returns-3 c =
     let hn : n < 128 = known-small (partOf k) n (packed .pointer-known) in
     let other : code (kindAt (partOf k) n) ≡ 1 → ⊥ = λ z. else .if2 .left (low-rule k n _ hn (rule .rule .ensures k n hn e) 1 (omega arith) z) in
     let becomes = unrung k w w (other-fetched (partOf k) (sound k) w (packed .fit) n hn other) (unrung-fetched (partOf k) (coreIn (partOf k) w) (interruptIn w) (packed .right) n (ne-eqb _ 1 other)) in
-    rw (c .was-fetched2 .ensures .0, read .read3 .ensures)
+    rw (c .was-fetched2 .ensures .0, read .read2 .ensures)
     (went-on k w w packed becomes (sends .if1 .left) _ (show .show .ensures k n (packed .pointer-known) e (packed .fit)) (a .acknowledged)
     (c .was-fetched2 .ensures .1 k packed e))
 

@@ -11,7 +11,7 @@ returns c =
     let filled = c .before .before in
     let pins = filled .before in
     let s = pins .before .before in
-    let p = powered (s .args .part) (s .args .choice) (s .args .levels) (s .pre .0) (s .pre .1) (s .pre .2) _ (pins .pins-of .ensures) in
+    let p = powered (s .args .part) (s .args .choice) (s .args .levels) (s .args .id) (s .pre .0) (s .pre .1) (s .pre .2) (s .pre .3) _ (pins .pins-of .ensures) in
     rw (c .put-sets .ensures) (rw (filled .put-defaults .ensures) (p .packed, ap (λ (o : Outcome). o .after) (p .outcome)))
 
 pub power-on-spec : {M : Type 1} → statement M

@@ -1,8 +1,7 @@
--- `words_images::from_file`: the entries below n are taken (`Taken`), and no other word is touched. Assumes nothing.
+-- `words_images::from_file`: the entries below n are taken (`Taken`). Assumes nothing.
 use borrow.Author.Needs.{needs}
-use mathlib.Core.Path.{_≡_, refl, ap, _∙_}
-use Prim.Native.Nat.{ℕ, _-_, _<_}
-use lib.ListN.{getD}
+use mathlib.Core.Path.{refl, ap}
+use Prim.Native.Nat.{_-_}
 use Rattle.map.specs.Map.{partOf}
 use Rattle.registers.specs.Registers.{Core}
 use Rattle.words.proofs.Sound.{sound}
@@ -11,7 +10,7 @@ use Rattle.words_images.proofs.from_file.Statement.{statement}
 use Rattle.words_images.proofs.from_file.Tie as tie
 
 abbrev Inv-loop : tie.InvT-loop
-Inv-loop words₀ part file -count n₀ words n = Taken (partOf part) file words n × ((s : ℕ) → 18 < s → getD words s 0 ≡ 0)
+Inv-loop words₀ part file -count n₀ words n = Taken (partOf part) file words n
 
 abbrev μ-loop : tie.MeasureT-loop
 μ-loop words₀ part file -count n₀ words n = 128 - n
@@ -19,7 +18,7 @@ abbrev μ-loop : tie.MeasureT-loop
 loop-holds : tie.Need-loop-holds Inv-loop μ-loop
 loop-holds c =
     let x = c .before .before .args in
-    (taken-none (partOf (x .part)) (sound (x .part)) (x .file .now) _ refl (all-zero 28), λ s h. all-zero 28 s)
+    taken-none (partOf (x .part)) (sound (x .part)) (x .file .now) _ refl (all-zero 28)
 
 store-requires : tie.Need-store-requires Inv-loop μ-loop
 store-requires c κs =
@@ -30,7 +29,7 @@ store-requires c κs =
       number = l .loop .n;
       small = test .loop-test .taken;
       row-is = c .row-of .ensures;
-      fit = l .loop .inv .0 .fit;
+      fit = l .loop .inv .fit;
     }
 
 loop-again : tie.Need-loop-again Inv-loop μ-loop
@@ -38,18 +37,15 @@ loop-again c =
     let test = c .before .before .before .before in
     let l = test .before in
     let x = l .before .before .before .args in
-    let h = c .store .ensures (x .part) (l .loop .n) (test .loop-test .taken) (c .before .row-of .ensures) (l .loop .inv .0 .fit) in (
-      taken-more (partOf (x .part)) (sound (x .part)) (x .file .now) (l .loop .words) _ (l .loop .n) (l .loop .inv .0) (test .loop-test .taken) (ap (λ (k : Core). k .file) (h .core)) (h .fit),
-      λ s past. h .rest s past ∙ l .loop .inv .1 s past,
-    )
+    let h = c .store .ensures (x .part) (l .loop .n) (test .loop-test .taken) (c .before .row-of .ensures) (l .loop .inv .fit) in
+    taken-more (partOf (x .part)) (sound (x .part)) (x .file .now) (l .loop .words) _ (l .loop .n) (l .loop .inv) (test .loop-test .taken) (ap (λ (k : Core). k .file) (h .core)) (h .fit)
 
 returns : tie.Need-returns Inv-loop μ-loop
 returns c =
     let l = c .before in
     let x = l .before .before .before .args in (
-      l .loop .inv .0 .fit,
-      λ f. taken-all (partOf (x .part)) (sound (x .part)) (x .file .now) (l .loop .words) (l .loop .n) (l .loop .inv .0) (c .loop-test .left) (l .before .before .counted .ensures) f,
-      l .loop .inv .1,
+      l .loop .inv .fit,
+      λ f. taken-all (partOf (x .part)) (sound (x .part)) (x .file .now) (l .loop .words) (l .loop .n) (l .loop .inv) (c .loop-test .left) (l .before .before .counted .ensures) f,
     )
 
 pub from-file-spec : {M : Type 1} → statement M

@@ -14,7 +14,7 @@ returns c =
     let a = from .before .before .args in
     let u = from .from-file .ensures in
     let t = rw (put .put-sets .ensures) at (s .stand-for .ensures) in
-    no-such-file (a .part) _ (a .file .now) (u .0) (u .2) (u .1) (a .sets) (a .pointer) (a .bus) (a .choice) (a .status) (a .line) (a .mode) (λ h. clash _ (t .1 h) (not-true _ (c .if1 .taken))) (a .words .now)
+    no-such-file (a .part) _ (a .file .now) (u .0) (u .1) (a .sets) (a .pointer) (a .bus) (a .choice) (a .status) (a .line) (a .mode) (a .number) (a .place) (λ h. clash _ (t .1 h) (not-true _ (c .if1 .taken))) (a .words .now)
 
 returns-2 : tie.Need-returns-2
 returns-2 c =
@@ -24,7 +24,7 @@ returns-2 c =
     let a = from .before .before .args in
     let u = from .from-file .ensures in
     let t = rw (put .put-sets .ensures) at (f .fits2 .ensures) in
-    not-packed (a .part) _ (a .file .now) (u .0) (u .2) (u .1) (a .sets) (a .pointer) (a .bus) (a .choice) (a .status) (a .line) (a .mode) (λ k. clash _ (t .1 k) (not-true _ (c .if2 .taken))) (a .words .now)
+    not-packed (a .part) _ (a .file .now) (u .0) (u .1) (a .sets) (a .pointer) (a .bus) (a .choice) (a .status) (a .line) (a .mode) (a .number) (a .place) (λ k. clash _ (t .1 k) (not-true _ (c .if2 .taken))) (a .words .now)
 
 returns-3 : tie.Need-returns-3
 returns-3 c =
@@ -39,7 +39,7 @@ returns-3 c =
     let stands = rw e at (s .stand-for .ensures) in
     let fits = rw e at (f .fits2 .ensures) in
     rw e
-    (judged-packed (a .part) _ (a .file .now) (u .0) (u .2) (u .1) (a .sets) (a .pointer) (a .bus) (a .choice) (a .status) (a .line) (a .mode) (fits .0 (not-false _ (c .if2 .left)))
+    (judged-packed (a .part) _ (a .file .now) (u .0) (u .1) (a .sets) (a .pointer) (a .bus) (a .choice) (a .status) (a .line) (a .mode) (a .number) (a .place) (fits .0 (not-false _ (c .if2 .left)))
     (stands .0 (not-false _ (else .if1 .left))) (a .words .now))
 
 pub pack-spec : {M : Type 1} → statement M
@@ -48,6 +48,8 @@ pack-spec =
     (tie.spec
     (λ c κs. search needs)
     (λ c κs. search needs)
+    (λ c. search needs)
+    (λ c. search needs)
     (λ c. search needs)
     (λ c. search needs)
     (λ c. search needs)

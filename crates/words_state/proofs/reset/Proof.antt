@@ -14,7 +14,7 @@ use Rattle.words_state.proofs.reset.Tie as tie
 returns : tie.Need-returns
 returns c =
     let filled = c .before .before in
-    let pins = filled .before .before .before .before in
+    let pins = filled .before .before .before .before .before in
     let sets = pins .before in
     let a = sets .before .before .args in
     λ k packed e.
@@ -25,4 +25,4 @@ returns c =
 
 pub reset-spec : {M : Type 1} → statement M
 reset-spec =
-    tie.close (tie.spec (λ c κs. search needs) (λ c κs. search needs) (λ c. search needs) (λ c. search needs) (λ c κs. search needs) (λ c κs. search needs) returns)
+    tie.close (tie.spec (λ c κs. search needs) (λ c κs. search needs) (λ c. search needs) (λ c. search needs) (λ c. search needs) (λ c κs. search needs) (λ c κs. search needs) returns)

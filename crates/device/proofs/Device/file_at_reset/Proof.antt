@@ -10,7 +10,7 @@ use Rattle.device.proofs.Device.file_at_reset.Statement.{statement}
 use Rattle.device.proofs.Device.file_at_reset.Tie as tie
 
 power-on-requires : tie.Need-power-on-requires
-power-on-requires c κs = (search needs, omega arith, pow-pos (partOf (c .before .args .part) .width))
+power-on-requires c κs = (search needs, omega arith, pow-pos (partOf (c .before .args .part) .width), omega arith)
 
 returns : tie.Need-returns
 unfolding powerOn

@@ -1,0 +1,18 @@
+-- `probe_fields::put_last`: three fields, one after the other. Assumes nothing.
+use borrow.Author.Needs.{needs}
+use Rattle.text.proofs.Laws.{wrote-as, wrote-both}
+use Rattle.probe_fields.proofs.Writing.{last-text}
+use Rattle.probe_fields.proofs.put_last.Statement.{statement}
+use Rattle.probe_fields.proofs.put_last.Tie as tie
+
+returns : tie.Need-returns
+returns c =
+    let t = c .before .before in
+    let s = t .before .before .before .before in
+    let f = s .before .before .before .before in
+    (wrote-as (last-text _ _ _) (wrote-both (f .put-field .ensures .0) (wrote-both (s .put-field2 .ensures .0) (t .put-field3 .ensures .0))), search needs)
+
+pub put-last-spec : {M : Type 1} → statement M
+put-last-spec =
+    tie.close
+    (tie.spec (λ c κs. search needs) (λ c κs. search needs) (λ c κs. search needs) (λ c. search needs) returns)
