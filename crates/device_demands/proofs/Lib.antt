@@ -6,3 +6,4 @@ pub mod Machine
 pub mod Runs
 pub mod Transacting
 pub mod Identifying
+pub mod Leading

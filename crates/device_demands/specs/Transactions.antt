@@ -1,12 +1,15 @@
 -- Whole transactions on the bus.
-use mathlib.Core.Bool.{Bool, true, false}
+use mathlib.Core.Bool.{Bool, true, false, cond, _&&_, _||_}
 use mathlib.Core.List.{List, [], _∷_}
 use Prim.Native.Nat.{ℕ, zero, suc, _+_, _*_, _/_, _%_, _<_}
+use lib.Dec.{eqb}
 use Rattle.bits.specs.Bits.{val}
 use Rattle.map.specs.Map.{Part, nextIn}
 use Rattle.registers.specs.Registers.{Core, written, fetched, shown}
 use Rattle.registers.specs.Interrupt.{workedOut}
-use Rattle.device_rules.specs.Device.{Identity, State, identity, state, byteAt, nextPlace}
+use Rattle.device_rules.specs.Device.{Identity, State, Event, number, identity, state, ours, byteAt, nextPlace}
+use Rattle.device_rules.specs.Device.Bus.{Opened, Asking, Named, Reopened}
+use Rattle.device_rules.specs.Device.Event.{Start, Stop, HardwareReset, ByteSent, ByteFetched, Levels}
 use Rattle.device_rules.specs.declared.Answer.{Answer}
 use Rattle.device_rules.specs.declared.Answer.the-variants.{Ack, Byte}
 use Rattle.device_demands.specs.Run.{Asked}
@@ -114,6 +117,36 @@ placesOn id (suc more) = placesOn (identity (id .number) (nextPlace (id .place))
 abbrev pub toldFrom : Identity → (more : ℕ) → (then : List Answer) → List Answer
 toldFrom id zero then = Byte (byteAt id) ∷ then
 toldFrom id (suc more) then = Byte (byteAt id) ∷ toldFrom (identity (id .number) (nextPlace (id .place))) more then
+
+-- what leads to each state of the question from another one: F8h where an address byte is taken, our byte after it, START after that
+abbrev pub asks : State → Event → Bool
+asks s (ByteSent b) = eqb b 0xf8 && (eqb (s .bus) (number Opened) || eqb (s .bus) (number Reopened))
+asks s Start = false
+asks s Stop = false
+asks s HardwareReset = false
+asks s (ByteFetched acknowledged) = false
+asks s (Levels new) = false
+
+abbrev pub names : State → Event → Bool
+names s (ByteSent b) = eqb (s .bus) (number Asking) && ours s b
+names s Start = false
+names s Stop = false
+names s HardwareReset = false
+names s (ByteFetched acknowledged) = false
+names s (Levels new) = false
+
+abbrev pub reopens : State → Event → Bool
+reopens s Start = eqb (s .bus) (number Named)
+reopens s Stop = false
+reopens s HardwareReset = false
+reopens s (ByteSent b) = false
+reopens s (ByteFetched acknowledged) = false
+reopens s (Levels new) = false
+
+-- the event leads rightly to the state of that number: every other number may be led to by any
+abbrev pub ledTo : State → Event → (bus : ℕ) → Bool
+ledTo s e bus =
+    cond (eqb bus (number Asking)) (asks s e) (cond (eqb bus (number Named)) (names s e) (cond (eqb bus (number Reopened)) (reopens s e) true))
 
 -- ---- one byte, as the bench points have it
 -- the command n is set, and a byte is fetched
