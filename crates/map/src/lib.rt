@@ -319,7 +319,7 @@ pub fn pins_of(part: u64) -> u64
     PINS34
 }
 
-// Those of a part that is given by its number, written to what a loop is lent.
+// The group step of the part of that number, written to what a loop is lent: an array that is indexed by its name is built anew at each lookup.
 pub fn put_next(next: &mut [u8; 128], part: u64)
     ensures { λ r. ⌜ Stepping (partOf part) (now (next .exit)) ⌝ }
 {
