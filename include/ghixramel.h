@@ -1,5 +1,6 @@
-/* ghixramel: the PCAL6524 and its sister of 34 pins, the PCAL6534, in software, and the planner of quiet register
- * writes. Link with libghixramel.a. What is said of the PCAL6524's calls holds of the sister's, which come last.
+/* ghixramel: the PCAL6524 and its sister of 34 pins, the PCAL6534, in software, the planner of quiet register writes,
+ * and the comparison of a recorded chip with the device. Link with libghixramel.a. What is said of the PCAL6524's calls
+ * holds of the sister's, which come last.
  *
  * Every function gives 0, or the number of its refusal; refused, it changes nothing that it was lent, with one
  * exception: a burst keeps what it did before the event that it refuses. No call needs a check first. Nothing is
@@ -194,6 +195,31 @@ static inline uint32_t ghixramel_from_image(struct ghixramel *device, const stru
  * at most GHIXRAMEL_MOST_WRITES; bytes past them stay. Refusals 5, 6, 4. Lengths have 64 bits on every processor. */
 uint32_t ghixramel_plan(const uint8_t *start, uint64_t start_bytes, const uint8_t *goal, uint64_t goal_bytes,
                         uint8_t *buffer, uint64_t buffer_bytes, uint64_t writes[1]);
+
+/* Verdicts of a comparison. */
+enum {
+    GHIXRAMEL_AGREES = 0,
+    GHIXRAMEL_DEPARTS = 1,    /* a line is another than the device's */
+    GHIXRAMEL_ENDS_EARLY = 2, /* no line departs, and some are missing */
+    GHIXRAMEL_LEFT_OVER = 3   /* no line departs, and some come after the device's last */
+};
+
+/* Whether the answers that a bench recorded of a real chip are those of the device. Both texts are as the program trace
+ * has them: it takes the events, and writes the answers. The call serves both parts, and the sister has none of its own:
+ * the events' own lines, `device` and `device34`, say the part.
+ *
+ * verdict[0] is the verdict. part[0] and part[1] are the offset and the length, in the answers, of the line that departs
+ * or of the first line that is left over, without its newline. If the answers agree or end early, they are answer_bytes
+ * and 0: the empty part at the end.
+ *
+ * The answers are held line by line against what trace writes for the events; line one is the header. The first line that
+ * differs decides, before the question whether lines are missing or left over. A last line without its newline counts if
+ * it holds a byte: the expected line agrees, a proper beginning of it departs. An empty line is a line. A line with a
+ * carriage return differs. An unreadable event expects `refused`, a tab and 7. Empty answers end early.
+ *
+ * Either text may have any length, also none; its pointer is then still one to a readable byte. There is no refusal. */
+uint32_t ghixramel_compare(const uint8_t *events, uint64_t event_bytes, const uint8_t *answers, uint64_t answer_bytes,
+                           uint8_t verdict[1], uint64_t part[2]);
 
 /* The sister, the PCAL6534, on the same structs: each call as its namesake, by the same code, with its own registers
  * and 34 pins. What is another number than the PCAL6524's:

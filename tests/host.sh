@@ -1,6 +1,7 @@
 #!/usr/bin/env bash
 # The library as a C program calls it: the header in each language, its own checks (tests/c/host.c), then the independent model on seeded
-# images, logs, plans, views and bursts (SEED, IMAGES, LOGS, PLANS, VIEWS and BURSTS on request: IMAGES=100000 SEED=7 tests/host.sh).
+# images, logs, plans, views, bursts and pairs of events and answers (SEED, IMAGES, LOGS, PLANS, VIEWS, BURSTS and PAIRS on request:
+# IMAGES=100000 SEED=7 tests/host.sh).
 set -u
 cd "$(dirname "${BASH_SOURCE[0]}")/.." || exit 2
 . c/kit.sh
@@ -31,9 +32,9 @@ build_lines() { # PART PEER_OPTIONS..
 
 build() {
     local name host="host checks guarded stack parts images words master inventory refused"
-    host+=" points identity refusals broken carried shows plans bursts"
+    host+=" points identity refusals broken carried shows plans bursts compares"
     mkdir -p "$out" || return 1
-    for name in $host as_peer plan_lines view_lines burst_lines; do
+    for name in $host as_peer plan_lines view_lines burst_lines log_pairs; do
         compile_c "$out/$name.o" "tests/c/$name.c" || return 1
     done
     for name in mix peer; do
@@ -42,6 +43,7 @@ build() {
     compile_c "$out/parts34.o" tests/c/parts.c -DFIRST_PART=1 || return 1
     # shellcheck disable=SC2046,SC2086
     link_c "$out/host" $(objects $host mix peer) "$library" &&
+        link_c "$out/log_pairs" $(objects log_pairs checks guarded stack parts) "$library" &&
         build_lines "" && build_lines 34 -DPEER_DIGITS=9 '-DPEER_DEVICE="device34"'
 }
 
@@ -79,4 +81,6 @@ compile_c "$out/header_32.o" tests/c/header.c -m32 || fail "the header for 32 bi
 "${launch[@]}" "$out/host" || bad=1
 judge_part "" 24
 judge_part 34 34
+# of both parts: their lines say which
+judge log-pairs log_pairs "${PAIRS:-4000}"
 exit $bad

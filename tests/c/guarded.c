@@ -7,8 +7,8 @@
 #include <libc.h>
 
 /* An odd guard puts byte arrays at odd addresses, where a host may have them. */
-enum { GUARD = 17, FILL = 0xA5, MOST_STACK = 4096 };
-enum function { POWER_ON, STEP, DRIVES, INT, SHOW, FROM_IMAGE, TO_IMAGE, PLAN, BURST, FUNCTIONS };
+enum { GUARD = 17, FILL = 0xA5, MOST_STACK = 4096, MOST_COMPARE_STACK = 2048 };
+enum function { POWER_ON, STEP, DRIVES, INT, SHOW, FROM_IMAGE, TO_IMAGE, PLAN, BURST, COMPARE, FUNCTIONS };
 
 struct results {
     uint8_t answer[2];
@@ -22,6 +22,10 @@ struct results {
     uint64_t writes[1];
     uint8_t guard_4[GUARD];
     uint8_t buffer[MOST_LENT_BYTES];
+    uint8_t guard_5[GUARD];
+    uint8_t verdict[1];
+    uint8_t guard_6[GUARD];
+    uint64_t part[2];
 };
 
 /* What only a burst is lent. It is long, so no other call's check goes over it. */
@@ -62,6 +66,14 @@ struct lent {
 _Static_assert(offsetof(struct lent, device) % 16 == 8 && offsetof(struct lent, elsewhere) % 16 == 0,
                "a host owes a state the alignment of its words, and no more");
 
+/* The texts of a comparison, each behind a guard and before another, wherever it ends. They may be very long, so no more of them
+ * is written and looked at than there is. */
+struct texts {
+    uint8_t events[GUARD + MOST_TEXT_BYTES + GUARD];
+    uint8_t answers[GUARD + MOST_TEXT_BYTES + GUARD];
+};
+_Static_assert(sizeof(struct texts) % 16 == 4, "texts elsewhere are at other places of a word");
+
 /* A call on the other stack takes its numbers from here, and leaves its refusal. */
 struct numbers {
     uint32_t small;
@@ -72,6 +84,8 @@ struct numbers {
 
 static _Alignas(16) struct lent lent;
 static struct lent before, first, allowed;
+static _Alignas(16) struct texts texts[2]; /* the first call's, and those elsewhere */
+static struct texts texts_before;
 static struct ghixramel *at; /* the first call's device, or that elsewhere */
 static struct numbers numbers;
 static uint32_t refusal;
@@ -135,6 +149,13 @@ static void burst(void)
                                 lent.burst.done);
 }
 
+static void compare(void)
+{
+    const struct texts *with = &texts[at == &lent.elsewhere];
+    refusal = ghixramel_compare(with->events + GUARD, numbers.event_bytes, with->answers + GUARD, numbers.answer_bytes,
+                                lent.results.verdict, lent.results.part);
+}
+
 /* What a call may have written is laid over the copy from before. */
 static void allow(const void *written, size_t bytes)
 {
@@ -174,6 +195,16 @@ static void allow_burst(void)
     allow(lent.burst.answers, 2 * (size_t)done);
 }
 
+/* So is a verdict that is none, or a part that is not in the answers. */
+static void allow_comparison(void)
+{
+    uint64_t offset = lent.results.part[0], length = lent.results.part[1];
+    want("one of four verdicts", 1, lent.results.verdict[0] <= GHIXRAMEL_LEFT_OVER);
+    want("a part of the answers", 1, offset <= numbers.answer_bytes && length <= numbers.answer_bytes - offset);
+    allow(lent.results.verdict, sizeof lent.results.verdict);
+    allow(lent.results.part, sizeof lent.results.part);
+}
+
 static void allow_results(enum function function)
 {
     switch (function) {
@@ -199,6 +230,9 @@ static void allow_results(enum function function)
         break;
     case BURST:
         allow_burst();
+        break;
+    case COMPARE:
+        allow_comparison();
         break;
     default:
         allow_plan();
@@ -390,12 +424,49 @@ uint32_t guarded_burst(struct ghixramel *device, const uint8_t *events, uint64_t
     return refusal;
 }
 
+static void lay_text(uint8_t *room, const uint8_t *text, uint64_t bytes)
+{
+    memset(room, FILL, GUARD);
+    memcpy(room + GUARD, text, bytes);
+    memset(room + GUARD + bytes, FILL, GUARD);
+}
+
+static void lay_texts(struct texts *to, const uint8_t *events, const uint8_t *answers)
+{
+    lay_text(to->events, events, numbers.event_bytes);
+    lay_text(to->answers, answers, numbers.answer_bytes);
+}
+
+static void want_texts_as_before(const struct texts *now)
+{
+    want("events or memory beside them changed", 0, memcmp(texts_before.events, now->events, GUARD + numbers.event_bytes + GUARD) != 0);
+    want("answers or memory beside them changed", 0, memcmp(texts_before.answers, now->answers, GUARD + numbers.answer_bytes + GUARD) != 0);
+}
+
+uint32_t guarded_compare(const uint8_t *events, uint64_t event_bytes, const uint8_t *answers, uint64_t answer_bytes, uint8_t verdict[1],
+                         uint64_t part[2])
+{
+    fill(offsetof(struct lent, burst));
+    numbers = (struct numbers){.event_bytes = event_bytes, .answer_bytes = answer_bytes};
+    lay_texts(&texts_before, events, answers);
+    lay_texts(&texts[0], events, answers);
+    lay_texts(&texts[1], events, answers);
+    watch(COMPARE, compare, compare);
+    want_texts_as_before(&texts[0]);
+    want_texts_as_before(&texts[1]);
+    memcpy(verdict, lent.results.verdict, sizeof lent.results.verdict);
+    memcpy(part, lent.results.part, sizeof lent.results.part);
+    return refusal;
+}
+
 void check_stacks(void)
 {
-    static const char *const names[FUNCTIONS] = {"power_on", "step", "drives", "int", "show", "from_image", "to_image", "plan", "burst"};
+    static const char *const names[FUNCTIONS] = {"power_on",   "step",     "drives", "int",   "show",
+                                                 "from_image", "to_image", "plan",   "burst", "compare"};
     for (int i = 0; i < FUNCTIONS; i++) {
+        size_t most = i == COMPARE ? MOST_COMPARE_STACK : MOST_STACK;
         about(names[i], most_used[i]);
-        want("the call was measured and used less than 4096 bytes of stack", 1, most_used[i] > 0 && most_used[i] < MOST_STACK);
+        want("the call was measured and used less stack than it may", 1, most_used[i] > 0 && most_used[i] < most);
     }
     printf("host: bytes of stack:");
     for (int i = 0; i < FUNCTIONS; i++)

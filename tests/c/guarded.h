@@ -1,6 +1,6 @@
 /* The library's calls for the part that the checks are about (parts.h), each watched: made in memory with guard bytes around
- * every array and on a stack of its own, and once more from the same beginning, with the state elsewhere in memory and the
- * image as the struct where it was arrays. Checked each time: a refused call changed no byte, another only its results, and
+ * every array and on a stack of its own, and once more from the same beginning, with the state or the texts elsewhere in memory
+ * and the image as the struct where it was arrays. Checked each time: a refused call changed no byte, another only its results, and
  * a burst that ended early only those of the events that it counts; both calls gave the same, so nothing was kept in between
  * and the place did not matter. An image that was taken comes out as the same bytes; one that was given makes the same state
  * again, byte for byte. */
@@ -9,8 +9,8 @@
 
 #include <ghixramel.h>
 
-/* What is lent to the planner may be this long, and to a burst so many events and so much room for answers. */
-enum { MOST_LENT_BYTES = 64, MOST_EVENT_BYTES = 515 * GHIXRAMEL_EVENT_BYTES, MOST_ROOM_BYTES = 515 * 2 + 1 };
+/* What is lent to the planner may be this long, to a burst so many events and so much room for answers, to a comparison each text. */
+enum { MOST_LENT_BYTES = 64, MOST_EVENT_BYTES = 515 * GHIXRAMEL_EVENT_BYTES, MOST_ROOM_BYTES = 515 * 2 + 1, MOST_TEXT_BYTES = 512 * 1024 };
 
 uint32_t guarded_power_on(struct ghixramel *device, uint32_t choice, uint64_t levels, uint64_t number);
 uint32_t guarded_step(struct ghixramel *device, uint32_t kind, uint64_t argument, uint8_t answer[2]);
@@ -28,6 +28,10 @@ struct ghixramel guarded_device(const struct ghixramel_image *image);
 
 uint32_t guarded_plan(const uint8_t *start, uint64_t start_bytes, const uint8_t *goal, uint64_t goal_bytes, uint8_t *buffer,
                       uint64_t buffer_bytes, uint64_t writes[1]);
+
+/* The texts say their parts themselves. */
+uint32_t guarded_compare(const uint8_t *events, uint64_t event_bytes, const uint8_t *answers, uint64_t answer_bytes, uint8_t verdict[1],
+                         uint64_t part[2]);
 
 /* Checks that no call so far used too much stack, and prints the most that each function used, whatever its part. */
 void check_stacks(void);

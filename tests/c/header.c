@@ -5,6 +5,7 @@
 static uint32_t (*const power_on)(struct ghixramel *, uint32_t, uint64_t, uint64_t) = ghixramel_power_on;
 static uint32_t (*const plan)(const uint8_t *, uint64_t, const uint8_t *, uint64_t, uint8_t *, uint64_t, uint64_t *) = ghixramel_plan;
 static uint32_t (*const burst)(struct ghixramel *, const uint8_t *, uint64_t, uint64_t, uint8_t *, uint64_t, uint64_t *) = ghixramel_burst;
+static uint32_t (*const compare)(const uint8_t *, uint64_t, const uint8_t *, uint64_t, uint8_t *, uint64_t *) = ghixramel_compare;
 
 static uint32_t (*const power_on34)(struct ghixramel *, uint32_t, uint64_t, uint64_t) = ghixramel34_power_on;
 static uint32_t (*const plan34)(const uint8_t *, uint64_t, const uint8_t *, uint64_t, uint8_t *, uint64_t, uint64_t *) = ghixramel34_plan;
@@ -72,6 +73,25 @@ static int planned(void)
     return plan(start, sizeof start, goal, sizeof goal, buffer, sizeof buffer, writes) == GHIXRAMEL_DONE && writes[0] == 0;
 }
 
+/* Events before any device expect refusal 7, so the last line departs; texts that are cut before it have the other verdicts. */
+static int compared(void)
+{
+    const uint8_t events[] = "start\nstop\n", answers[] = "answer\tint\tlow\thigh\nrefused\t7\nrefused\t8\n";
+    const uint64_t two_events = sizeof events - 1, one_event = sizeof "start";
+    const uint64_t three_lines = sizeof answers - 1, two_lines = three_lines - sizeof "refused\t8";
+    uint8_t verdict[1] = {0};
+    uint64_t part[2] = {0, 0};
+    if (compare(events, two_events, answers, three_lines, verdict, part) != GHIXRAMEL_DONE || verdict[0] != GHIXRAMEL_DEPARTS)
+        return 0;
+    if (part[0] != two_lines || part[1] != sizeof "refused\t8" - 1)
+        return 0;
+    if (compare(events, two_events, answers, two_lines, verdict, part) != GHIXRAMEL_DONE || verdict[0] != GHIXRAMEL_ENDS_EARLY)
+        return 0;
+    if (compare(events, one_event, answers, three_lines, verdict, part) != GHIXRAMEL_DONE || verdict[0] != GHIXRAMEL_LEFT_OVER)
+        return 0;
+    return compare(events, one_event, answers, two_lines, verdict, part) == GHIXRAMEL_DONE && verdict[0] == GHIXRAMEL_AGREES;
+}
+
 /* The sister's calls on the same structs: 33 is its last pin; each part's calls refuse the other's state. */
 static int sister(void)
 {
@@ -122,5 +142,5 @@ int main(void)
         return 1;
     if (ghixramel_step(&device, GHIXRAMEL_START, 0, answer) != GHIXRAMEL_DONE || answer[0] != GHIXRAMEL_NOTHING)
         return 1;
-    return !(views(&device) && done_in_a_burst(&device) && carried(&device) && planned() && sister());
+    return !(views(&device) && done_in_a_burst(&device) && carried(&device) && planned() && compared() && sister());
 }

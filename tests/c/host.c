@@ -1,5 +1,6 @@
 /* The library as a host calls it: the rules' worked example and bench points, the Device ID, every refusal, images in and out, the planner
- * over the bus, bursts; the same for each part. A line for each check that failed; the last line is `host: N checks, M failed`. */
+ * over the bus, bursts; the same for each part. Then comparisons, whose texts say the part. A line for each check that failed; the last
+ * line is `host: N checks, M failed`. */
 #include "checks.h"
 #include "guarded.h"
 #include "host_checks.h"
@@ -24,6 +25,7 @@ int main(void)
         part = &parts[i];
         check_part();
     }
+    check_compares();
     check_stacks();
     return verdict();
 }

@@ -11,5 +11,6 @@ void check_carried(void);
 void check_shows(void);
 void check_plans(void);
 void check_bursts(void);
+void check_compares(void);
 
 #endif

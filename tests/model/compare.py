@@ -1,13 +1,18 @@
 """A program under test against the model: python3 compare.py WHAT COMMAND... [--seed N] [--count N].
 
 WHAT is trace (logs of both parts in turns), trace24 or trace34 (of one alone, for programs that know no other), or
-probe, plan, views or burst for the 24-pin part and probe34, plan34, views34 or burst34 for its sister.
+probe, plan, views or burst for the 24-pin part and probe34, plan34, views34 or burst34 for its sister; or logs for the
+program compare, which is given two file names, or log-pairs for a program that reads as many events and answers as there
+are from its input: their lengths in decimal, a space between and a newline after, then the bytes of both. For each it
+prints a line of verdict, offset and length, a space between.
 """
 
+import os
 import random
 import subprocess
 import sys
 import tempfile
+import threading
 import time
 
 import bursts
@@ -16,11 +21,14 @@ import probe
 import views
 from device import PARTS
 from judge import Planner
+from logs import Comparison
 from trace import run_log, split_lines
 
-COUNTS = {'trace': 1000, 'probe': 20000, 'plan': 3000, 'views': 3000, 'burst': 3000}
+COUNTS = {'trace': 1000, 'probe': 20000, 'plan': 3000, 'views': 3000, 'burst': 3000, 'logs': 400, 'log-pairs': 4000}
 ALONE = 20
 LONG_LOGS, LONG_LINES = 5, 4000
+# One pair in so many is read from pipes too, which are filled by so many bytes at most; no run takes so many seconds.
+PIPED, PIECE, PATIENCE = 16, 37, 60
 
 
 def unreadable_plans(digits):
@@ -156,6 +164,103 @@ def compare_plan(which, command, rng, count):
     return True, len(pairs)
 
 
+def log_pairs(rng, count):
+    return [generate.log_pair(rng, number) for number in range(count)] + list(generate.further_log_pairs(rng))
+
+
+def report_pair(what, pair, wanted, got):
+    """Print where the first difference is, the beginnings of both, and where events and answers are."""
+    print('%s: other from byte %d on' % (what, len(os.path.commonprefix((wanted, got)))))
+    print('  model   %.300r\n  program %.300r' % (wanted, got))
+    print('  events kept in %s, answers in %s' % tuple(map(kept, pair)))
+
+
+def run_on(command, names, descriptors=()):
+    """Standard output and standard error of the program on two files; its exit status says nothing, a signal does."""
+    done = subprocess.run(command + names, stdin=subprocess.DEVNULL, stdout=subprocess.PIPE, stderr=subprocess.PIPE,
+                          check=False, pass_fds=descriptors, timeout=PATIENCE)
+    return (done.stdout, done.stderr) if done.returncode >= 0 else (b'ended by signal %d' % -done.returncode, b'')
+
+
+def on_files(command, room, pair):
+    names = [os.path.join(room, name) for name in ('events', 'answers')]
+    for name, data in zip(names, pair):
+        with open(name, 'wb') as file:
+            file.write(data)
+    return run_on(command, names)
+
+
+def fill(descriptor, pieces):
+    """The pieces one by one into a pipe, as far as somebody reads them."""
+    with open(descriptor, 'wb', buffering=0) as pipe:
+        try:
+            for piece in pieces:
+                pipe.write(piece)
+        except BrokenPipeError:
+            pass
+
+
+def in_pieces(rng, data):
+    """The data in small pieces of sizes by chance."""
+    begin, pieces = 0, []
+    while begin < len(data):
+        pieces.append(data[begin:begin + rng.randint(1, PIECE)])
+        begin += len(pieces[-1])
+    return pieces
+
+
+def on_pipes(command, rng, pair):
+    """So a program is told that seeks, that reads twice, or that takes a short read for the last one."""
+    # Of such a pipe a read gives one piece, however much it asks for; it must ask for a whole one.
+    pipes = [os.pipe2(os.O_DIRECT | os.O_CLOEXEC) for _ in pair]
+    reading = [ends[0] for ends in pipes]
+    writers = [threading.Thread(target=fill, args=(ends[1], in_pieces(rng, data))) for ends, data in zip(pipes, pair)]
+    for writer in writers:
+        writer.start()
+    try:
+        return run_on(command, ['/dev/fd/%d' % end for end in reading], reading)
+    finally:
+        # A writer that still waits for a reader ends with this.
+        for end in reading:
+            os.close(end)
+        for writer in writers:
+            writer.join()
+
+
+def compare_logs(command, rng, count):
+    """Each pair of events and answers in a run of its own, from files; some from pipes too."""
+    pairs = log_pairs(rng, count)
+    with tempfile.TemporaryDirectory(prefix='compare-') as room:
+        for number, pair in enumerate(pairs):
+            model = Comparison(*pair)
+            wanted = model.output(), model.remarks()
+            runs = [('files', on_files(command, room, pair))]
+            if number % PIPED == 0:
+                runs.append(('pipes', on_pipes(command, rng, pair)))
+            for way, got in runs:
+                for stream, want, have in zip(('output', 'error'), wanted, got):
+                    if want != have:
+                        report_pair('pair %d from %s, standard %s' % (number, way, stream), pair, want, have)
+                        return False, len(pairs)
+    return True, len(pairs)
+
+
+def compare_log_pairs(command, rng, count):
+    """All pairs of events and answers in one run."""
+    pairs = log_pairs(rng, count)
+    given = b''.join(b'%d %d\n%s%s' % (len(events), len(answers), events, answers) for events, answers in pairs)
+    got = run(command, given).split(b'\n')
+    if len(got) != len(pairs) + 1 or got[-1] != b'':
+        print('pairs: %d asked, %d answers' % (len(pairs), len(got) - 1))
+        return False, len(pairs)
+    for number, (pair, line) in enumerate(zip(pairs, got)):
+        wanted = b'%d %d %d' % Comparison(*pair).finding()[:3]
+        if line != wanted:
+            report_pair('pair %d' % number, pair, wanted, line)
+            return False, len(pairs)
+    return True, len(pairs)
+
+
 def options(words):
     """The command without the options that may follow it."""
     chosen = {'--seed': 1, '--count': None}
@@ -166,10 +271,14 @@ def options(words):
 
 
 COMPARED = {'probe': compare_probe, 'plan': compare_plan, 'views': compare_views, 'burst': compare_burst}
+# Those that have both parts in one case.
+COMPARED_TOGETHER = {'logs': compare_logs, 'log-pairs': compare_log_pairs}
 
 
 def comparison(what):
     """The name of what is compared without its part, and the comparison; None for one that is unknown."""
+    if what in COMPARED_TOGETHER:
+        return what, COMPARED_TOGETHER[what]
     name, which = (what[:-2], int(what[-2:])) if what[-2:] in ('24', '34') else (what, None)
     if name == 'trace':
         return name, lambda *given: compare_trace((which,) if which else tuple(PARTS), *given)

@@ -1,9 +1,12 @@
-"""Seeded generators for either part: trace logs, probe, view and burst lines, the planner's starts and goals."""
+"""Seeded generators for either part: logs, answers to them, probe, view and burst lines, the planner's starts and goals."""
+
+import re
 
 from device import (ASK, ASKING, ASSERTED, BYTE, CALL, CHOSEN, EVENT_BYTES, FETCH, FILLING, IN_GROUP, LEVELS, MOST_EVENTS,
                     NAMED, NUMBER_BYTES, NUMBER_LIMIT, OPENED, OVER_MAP, PARTS, QUIET, REOPENED, SENDING, START, TELL,
                     TELLING, Device, Image, kept_image)
 from probe import WIDTHS, image_fields
+from trace import run_log
 
 
 def known(which):
@@ -921,3 +924,217 @@ def padded_plan(rng, which):
     there_and_back = [(part.output + port, 0x7F), (part.output + port, 0xFF)]
     writes = there_and_back * ((most - len(writes)) // 2) + writes
     return bytes(start), bytes(goal), 'plan' + ''.join('\t%02x%02x' % write for write in writes)
+
+
+# Events and answers recorded to them, for the program compare.
+
+SHORT_LENGTHS = (0, 0, 1, 1, 2, 3, 5, 8, 12, 20)
+# Lines of logs over 20,000 and over 70,000 bytes, and the bytes of a line that no buffer holds.
+LARGE_LENGTHS, LONG_LINE = (3000, 9000), 200000
+# How many bytes a program may read at once.
+BORDERS = tuple(1 << power for power in range(9, 17))
+NEWLINE = 0x0A
+# Lines that come up more often than in other logs: empty, ended by a return or NUL, as long as a person is shown or about
+# so long, and some that are answered with digits.
+ODD_LINES = ('', 'start\r', 'stop\0', 'x' * 31, 'y' * 32, 'z' * 33, 'z' * 34, 'z' * 70, 'fetch\t1', 'fetch\t0')
+
+
+def short_log(rng):
+    """A log of a few lines: it may have devices of both parts, begin before one, be empty, or lack its last newline."""
+    log = Log(rng, rng.choice(list(PARTS)), True)
+    if rng.random() < 0.2:
+        rng.choice((log.stray, log.garbage))()
+    log.device()
+    if rng.random() < 0.2:
+        log.later_device()
+    log.go_on(max(SHORT_LENGTHS), log.weights)
+    lines = [rng.choice(ODD_LINES) if rng.random() < 0.25 else line for line in log.lines[:rng.choice(SHORT_LENGTHS)]]
+    end = '\n' if lines and rng.random() < 0.8 else ''
+    return ('\n'.join(lines) + end).encode('latin-1')
+
+
+def text_lines(text):
+    """The lines of a text with their newlines, the last one perhaps without."""
+    return re.findall(rb'[^\n]*\n|[^\n]+', text)
+
+
+# Spoils: what is made by chance of a text that is not empty.
+
+def on_a_byte(new, where=slice(None)):
+    """Some byte there becomes another, or none."""
+    def spoil(rng, text):
+        place = rng.choice(range(len(text))[where])
+        return text[:place] + new(rng) + text[place + 1:]
+    return spoil
+
+
+def on_a_line(change):
+    """Some line becomes what the change makes of it and its newline."""
+    def spoil(rng, text):
+        lines = text_lines(text)
+        place = rng.randrange(len(lines))
+        lines[place] = change(rng, lines[place])
+        return b''.join(lines)
+    return spoil
+
+
+def up_to_a_line(kept):
+    """The text ends with what is kept of some line."""
+    def spoil(rng, text):
+        lines = text_lines(text)
+        place = rng.randrange(len(lines))
+        return b''.join(lines[:place]) + kept(rng, lines[place])
+    return spoil
+
+
+def before_newline(put):
+    return on_a_line(lambda rng, line: line.replace(b'\n', put + b'\n'))
+
+
+def only_lines(first, end):
+    """Those from the first to before the end."""
+    return lambda rng, text: b''.join(text_lines(text)[first:end])
+
+
+def exchanged(rng, text):
+    """Some line and another one, which differs if there is such a one."""
+    lines = text_lines(text)
+    one = rng.randrange(len(lines))
+    other = rng.choice([place for place, line in enumerate(lines) if line != lines[one]] or [one])
+    lines[one], lines[other] = lines[other], lines[one]
+    return b''.join(lines)
+
+
+def any_byte(rng):
+    return bytes([rng.choice((rng.randrange(256), rng.randrange(0x20, 0x7F), *b'01f\t\r '))])
+
+
+def beginning(rng, line):
+    """Neither nothing nor the whole line without its newline, if it is long enough."""
+    return line[:rng.randrange(1, max(2, len(line) - 1))]
+
+
+def grown(rng, line):
+    """The line made as long as one that a person is shown whole, or about so long."""
+    return line.rstrip(b'\n').ljust(rng.choice((31, 32, 32, 33, 33, 100)), b'+') + b'\n'
+
+
+def capitals(rng, text):
+    """The digits in capitals, the words as they are."""
+    return re.sub(rb'(?<=[\t\n])[0-9a-f]+(?=[\t\n])', lambda digits: digits.group().upper(), text)
+
+
+def left_over(rng, text):
+    """A line after the last, perhaps without its newline."""
+    line = rng.choice(text_lines(text))
+    return text + rng.choice((line, line, line.rstrip(b'\n'), grown(rng, line), b'refused\t7\n', b'\r\n', b'\0\n', b'x'))
+
+
+SPOILS = {
+    'none': lambda rng, text: text,
+    'no last newline': lambda rng, text: text[:-1],
+    'nothing left': lambda rng, text: b'',
+    'only a newline': lambda rng, text: b'\n',
+    'a beginning': lambda rng, text: text[:rng.randrange(len(text))],
+    'cut in a line': up_to_a_line(beginning),
+    'cut before a newline': up_to_a_line(lambda rng, line: line[:-1]),
+    'cut after a newline': up_to_a_line(lambda rng, line: line),
+    'another byte': on_a_byte(any_byte),
+    'another byte in the header': on_a_byte(any_byte, slice(20)),
+    'another byte near the end': on_a_byte(any_byte, slice(-30, None)),
+    'a newline for a byte': on_a_byte(lambda rng: b'\n'),
+    'NUL for a byte': on_a_byte(lambda rng: b'\0'),
+    'a byte dropped': on_a_byte(lambda rng: b''),
+    'another byte for a newline': on_a_line(lambda rng, line: line.replace(b'\n', any_byte(rng))),
+    'a newline dropped': on_a_line(lambda rng, line: line.replace(b'\n', b'')),
+    'first line dropped': only_lines(1, None),
+    'a line dropped': on_a_line(lambda rng, line: b''),
+    'last line dropped': only_lines(0, -1),
+    'a line doubled': on_a_line(lambda rng, line: line * 2),
+    'two lines exchanged': exchanged,
+    'a line emptied': on_a_line(lambda rng, line: b'\n'),
+    'an empty line put in': on_a_line(lambda rng, line: b'\n' + line),
+    'a line cut short': on_a_line(lambda rng, line: beginning(rng, line) + b'\n'),
+    'a line grown': on_a_line(grown),
+    'an empty line left over': lambda rng, text: text + b'\n',
+    'a line left over': left_over,
+    'lines left over': lambda rng, text: left_over(rng, text + rng.choice((b'\n', b'\n\n', text))),
+    'a return before a newline': before_newline(b'\r'),
+    'returns before all newlines': lambda rng, text: text.replace(b'\n', b'\r\n'),
+    'a return for the last newline': lambda rng, text: text[:-1] + b'\r',
+    'NUL before a newline': before_newline(b'\0'),
+    'NUL and more before a newline': before_newline(b'\0x'),
+    'a space before a newline': before_newline(b' '),
+    'spaces before all newlines': lambda rng, text: text.replace(b'\n', b' \n'),
+    'capitals': capitals,
+    'capitals in a line': on_a_line(lambda rng, line: line.upper()),
+}
+
+
+def spoiled(rng, text, name):
+    return SPOILS[name](rng, text) if text else text
+
+
+def log_pair(rng, number):
+    """A log and its answers, spoiled in the way whose turn it is; some in a second way, and some with spoiled events."""
+    names = list(SPOILS)
+    events = short_log(rng)
+    answers = spoiled(rng, run_log(events), names[number % len(names)])
+    if rng.random() < 0.25:
+        answers = spoiled(rng, answers, rng.choice(names))
+    if rng.random() < 0.1:
+        events = spoiled(rng, events, rng.choice(names))
+    return events, answers
+
+
+def large_pairs(rng):
+    """Logs of both parts, spoiled near the end of their answers in every way."""
+    for length in LARGE_LENGTHS:
+        events = b''.join(long_log(rng, which, length // len(PARTS)) for which in PARTS)
+        answers = run_log(events)
+        late = answers.rindex(b'\n', 0, len(answers) - 400) + 1
+        for name in SPOILS:
+            yield events, answers[:late] + spoiled(rng, answers[late:], name)
+
+
+def long_line_pairs(rng):
+    """One line of the answers, or one of the events, is very long."""
+    long = bytes(rng.choices([byte for byte in range(256) if byte != NEWLINE], k=LONG_LINE))
+    events = long_log(rng, rng.choice(list(PARTS)), 10)
+    answers = run_log(events)
+    lines = text_lines(answers)
+    for place in (0, len(lines) // 2, len(lines) - 1):
+        before, after = b''.join(lines[:place]), b''.join(lines[place + 1:])
+        for whole in (long, lines[place][:-1] + long):
+            yield events, before + whole + b'\n' + after
+    yield from ((events, answers + long), (events, answers + long + b'\n'), (b'', long))
+    for end in (b'', b'\n', b'\nstart\n'):
+        asked = events + long + end
+        yield from ((asked, run_log(asked)), (asked, answers), (asked, answers + b'refused\t8\n'))
+
+
+def bordered(end):
+    """A log that ends after so many bytes, and so do its answers: a device, unreadable lines, fetches."""
+    # Of the answers the header has 20 bytes, the device's line 18, an unreadable line's 10, a fetch's 19.
+    fetches = (38 - end) % 10 or 10
+    unreadable = (end - 38 - 19 * fetches) // 10
+    short = b'device\t0\t000000\n' + b'no event.\n' * (unreadable - 1)
+    return short + b'x' * (end - len(short) - 8 * fetches - 1) + b'\n' + b'fetch\t1\n' * fetches
+
+
+def border_pairs(border):
+    """A line of the events and one of the answers end before the border, at it or after it, or go over it."""
+    for end in (border - 1, border, border + 1, border + 5):
+        events = bordered(end)
+        answers, longer = run_log(events), events + b'start\nstop\n'
+        yield from ((events, answers), (events, answers[:-1]), (events, answers + b'\n'), (events, answers + b'x'),
+                    (events[:-1], answers), (events, answers[:-2] + b'8\n'), (events, answers[:-2]),
+                    (longer, run_log(longer)), (longer, answers), (longer, answers[:-1]), (longer, answers + b'x\n'))
+
+
+def further_log_pairs(rng):
+    """Those that are longer than a program's buffers."""
+    yield from large_pairs(rng)
+    yield from long_line_pairs(rng)
+    for border in BORDERS:
+        yield from border_pairs(border)

@@ -6,10 +6,12 @@ A mutant of the device is tried on each part that it is about, the other part be
 from device import (ARMED, ASK, ASKING, ASSERTED, BYTE, CALL, CHOSEN, DEAF, EVENT_BYTES, FETCH, FILLING, IDLE, IN_GROUP,
                     LEVELS, MOST_EVENTS, NAMED, NUMBER_BYTES, NUMBER_LIMIT, OPENED, OVER_MAP, PARTS, QUIET, REOPENED, RESET,
                     SENDING, TELL, TELLING, Device, Part, Pin, pin_set, power_on_image)
+from generate import BORDERS
 from judge import Planner
+from logs import AGREES, DEPARTS, ENDS_EARLY, LEFT_OVER, SHOWN_BYTES, Comparison
 from probe import IMAGE_WIDTHS, WIDTHS, image_fields
 from probe import read_line as probe_line
-from trace import Session, answer_line
+from trace import HEADER, UNREADABLE, Session, answer_line, run_log, split_lines
 
 # Name of a mutant that no output can tell from the model, and why.
 SURVIVORS = {}
@@ -3665,3 +3667,570 @@ class PlanLengthOf24(Planner):
 class PlanLengthOf34(Planner):
     def most_writes(self):
         return 26
+
+
+# What the program compare finds.
+
+COMPARERS = []
+
+
+def comparer(cls):
+    COMPARERS.append(cls)
+    return cls
+
+
+def unfinished(comparison, place):
+    """Whether the line found there is the last one and has no newline."""
+    offset, line = comparison.found[place]
+    return offset + len(line) == len(comparison.answers)
+
+
+def forgiving(name, form):
+    """A mutant to which a line is what the form makes of it."""
+    def differs(self, place):
+        return form(self.found[place][1]) != form(self.expected[place])
+    comparer(type(name, (Comparison,), {'differs': differs}))
+
+
+forgiving('ReturnForgiven', lambda line: line[:-1] if line.endswith(b'\r') else line)
+forgiving('SpaceForgiven', lambda line: line.rstrip(b' '))
+forgiving('CapitalsForgiven', bytes.lower)
+forgiving('NulEndsLine', lambda line: line.partition(b'\0')[0])
+forgiving('NulForgiven', lambda line: line.replace(b'\0', b''))
+forgiving('OnlyLengthsCompared', len)
+forgiving('OnlyAnswersCompared', lambda line: line.partition(b'\t')[0])
+forgiving('OnlyDrivesCompared', lambda line: line.partition(b'\t')[2])
+
+
+@comparer
+class ReturnBeforeNewlineForgiven(Comparison):
+    def differs(self, place):
+        line = self.found[place][1]
+        forgiven = line.endswith(b'\r') and not unfinished(self, place)
+        return (line[:-1] if forgiven else line) != self.expected[place]
+
+
+@comparer
+class BeginningOfALineAgrees(Comparison):
+    def differs(self, place):
+        return not self.expected[place].startswith(self.found[place][1])
+
+
+@comparer
+class CutLastLineAgrees(Comparison):
+    """A beginning of a line, where the answers end in it."""
+
+    def differs(self, place):
+        return super().differs(place) and not (
+            unfinished(self, place) and self.expected[place].startswith(self.found[place][1]))
+
+
+@comparer
+class LongerLineAgrees(Comparison):
+    def differs(self, place):
+        return not self.found[place][1].startswith(self.expected[place])
+
+
+@comparer
+class EmptyLineAgrees(Comparison):
+    def differs(self, place):
+        return self.found[place][1] != b'' and super().differs(place)
+
+
+@comparer
+class HeaderNotExpected(Comparison):
+    """Answers without a header agree, and with one they depart."""
+
+    def lines_expected(self):
+        return super().lines_expected()[1:]
+
+
+@comparer
+class HeaderMayBeMissing(Comparison):
+    def lines_expected(self):
+        expected = super().lines_expected()
+        return expected if self.answers.startswith(HEADER) else expected[1:]
+
+
+@comparer
+class HeaderNotCompared(Comparison):
+    """Whatever line 1 is."""
+
+    def differs(self, place):
+        return place > 0 and super().differs(place)
+
+
+@comparer
+class LeftOverBeforeDeparts(Comparison):
+    def finding(self):
+        return self.left_over() if len(self.found) > len(self.expected) else super().finding()
+
+
+@comparer
+class MissingBeforeDeparts(Comparison):
+    def finding(self):
+        return self.ends_early() if len(self.found) < len(self.expected) else super().finding()
+
+
+@comparer
+class LastDifferenceDecides(Comparison):
+    def departs(self, place):
+        both = range(place, min(len(self.expected), len(self.found)))
+        return super().departs(max(later for later in both if self.differs(later)))
+
+
+@comparer
+class DroppedLineEndsEarly(Comparison):
+    """A line that is the one after the expected line is not what departs."""
+
+    def departs(self, place):
+        dropped = self.found[place][1] in self.expected[place + 1:place + 2]
+        return self.ends_early() if dropped else super().departs(place)
+
+
+@comparer
+class DoubledLineIsLeftOver(Comparison):
+    def departs(self, place):
+        doubled = place > 0 and self.found[place][1] == self.found[place - 1][1]
+        return self.at_line(LEFT_OVER if doubled else DEPARTS, place)
+
+
+@comparer
+class LinesInAnyOrder(Comparison):
+    def finding(self):
+        same = sorted(self.expected) == sorted(line for _, line in self.found)
+        return self.agrees() if same else super().finding()
+
+
+@comparer
+class CutLastLineEndsEarly(Comparison):
+    """A beginning of the expected line, where the answers end in it."""
+
+    def departs(self, place):
+        cut = unfinished(self, place) and self.expected[place].startswith(self.found[place][1])
+        return self.ends_early() if cut else super().departs(place)
+
+
+@comparer
+class WholeLastLineEndsEarly(Comparison):
+    """All lines are there, and the last newline is not."""
+
+    def agrees(self):
+        return super().agrees() if self.answers.endswith(b'\n') else self.at_end(ENDS_EARLY, len(self.found))
+
+
+@comparer
+class LastNewlineWanted(Comparison):
+    """All lines are there, and the last one departs without its newline."""
+
+    def agrees(self):
+        return super().agrees() if self.answers.endswith(b'\n') else self.departs(len(self.found) - 1)
+
+
+@comparer
+class EmptyAnswersAgree(Comparison):
+    def finding(self):
+        return super().finding() if self.answers else self.agrees()
+
+
+@comparer
+class EmptyAnswersDepart(Comparison):
+    def ends_early(self):
+        return super().ends_early() if self.answers else self.at_end(DEPARTS, 1)
+
+
+@comparer
+class EndsEarlyAgrees(Comparison):
+    def ends_early(self):
+        return self.agrees()
+
+
+@comparer
+class EndsEarlyDeparts(Comparison):
+    def ends_early(self):
+        return self.at_end(DEPARTS, len(self.found) + 1)
+
+
+@comparer
+class LeftOverAgrees(Comparison):
+    def left_over(self):
+        return self.agrees()
+
+
+@comparer
+class LeftOverDeparts(Comparison):
+    def left_over(self):
+        return self.departs(len(self.expected))
+
+
+@comparer
+class EmptyLineLeftOverAgrees(Comparison):
+    def left_over(self):
+        return self.agrees() if self.answers.endswith(b'\n\n') else super().left_over()
+
+
+# Which part of the answers comes back.
+
+@comparer
+class PartWithNewline(Comparison):
+    def at_line(self, verdict, place):
+        finding = super().at_line(verdict, place)
+        return finding if unfinished(self, place) else finding._replace(length=finding.length + 1)
+
+
+@comparer
+class EmptyLeftOverAtTheEnd(Comparison):
+    def left_over(self):
+        finding = super().left_over()
+        return finding if finding.length else finding._replace(offset=len(self.answers))
+
+
+@comparer
+class EmptyLeftOverAfterItsNewline(Comparison):
+    def left_over(self):
+        finding = super().left_over()
+        return finding if finding.length else finding._replace(offset=finding.offset + 1)
+
+
+@comparer
+class EmptyDepartingAtTheEnd(Comparison):
+    def departs(self, place):
+        finding = super().departs(place)
+        return finding if finding.length else finding._replace(offset=len(self.answers))
+
+
+@comparer
+class DepartingIsTheLineBefore(Comparison):
+    def departs(self, place):
+        return super().departs(max(0, place - 1))
+
+
+@comparer
+class DepartingIsTheLineAfter(Comparison):
+    def departs(self, place):
+        return super().departs(min(place + 1, len(self.found) - 1))
+
+
+@comparer
+class DepartingIsAllTheRest(Comparison):
+    def departs(self, place):
+        finding = super().departs(place)
+        return finding._replace(length=len(self.answers) - finding.offset)
+
+
+@comparer
+class DepartingFromItsFirstByte(Comparison):
+    """The part begins where line and expected line part."""
+
+    def departs(self, place):
+        finding, line = super().departs(place), self.found[place][1]
+        same = 0
+        while line[same:same + 1] == self.expected[place][same:same + 1] != b'':
+            same += 1
+        return finding._replace(offset=finding.offset + same, length=finding.length - same)
+
+
+@comparer
+class DepartingAsLongAsExpected(Comparison):
+    def departs(self, place):
+        finding = super().departs(place)
+        return finding._replace(length=min(finding.length, len(self.expected[place])))
+
+
+@comparer
+class LeftOverIsAllTheRest(Comparison):
+    def left_over(self):
+        finding = super().left_over()
+        return finding._replace(length=len(self.answers) - finding.offset)
+
+
+@comparer
+class LeftOverIsTheLastLine(Comparison):
+    def left_over(self):
+        return self.at_line(LEFT_OVER, len(self.found) - 1)
+
+
+@comparer
+class LeftOverIsTheLastExpected(Comparison):
+    def left_over(self):
+        return self.at_line(LEFT_OVER, len(self.expected) - 1)
+
+
+def at_start(name, verdict):
+    """A mutant that has the empty part of one verdict at the start of the answers."""
+    def at_end(self, found, number):
+        finding = Comparison.at_end(self, found, number)
+        return finding._replace(offset=0) if found == verdict else finding
+    comparer(type(name, (Comparison,), {'at_end': at_end}))
+
+
+at_start('AgreesAtTheStart', AGREES)
+at_start('EndsEarlyAtTheStart', ENDS_EARLY)
+
+
+@comparer
+class AgreesWithAllAnswers(Comparison):
+    def agrees(self):
+        return super().agrees()._replace(offset=0, length=len(self.answers))
+
+
+@comparer
+class EndsEarlyWithTheLastLine(Comparison):
+    def ends_early(self):
+        return self.at_line(ENDS_EARLY, len(self.found) - 1) if self.found else super().ends_early()
+
+
+@comparer
+class EndBeforeLastNewline(Comparison):
+    def at_end(self, verdict, number):
+        return super().at_end(verdict, number)._replace(offset=len(self.answers.rstrip(b'\n')))
+
+
+# What a line is, of the answers and of the events.
+
+def found_by(name, parted):
+    """A mutant that parts the answers into other lines, given as their beginnings and ends."""
+    def lines_found(self):
+        return [(begin, self.answers[begin:end]) for begin, end in parted(self.answers)]
+    comparer(type(name, (Comparison,), {'lines_found': lines_found}))
+
+
+def line_ends(text):
+    """Beginnings and ends of the lines that end with a newline, then of what follows the last."""
+    begin = 0
+    for line in text.split(b'\n'):
+        yield begin, begin + len(line)
+        begin += len(line) + 1
+
+
+found_by('UnfinishedLineUncounted', lambda text: list(line_ends(text))[:-1])
+found_by('NothingAfterNewlineCounts', line_ends)
+found_by('EmptyLinesUncounted', lambda text: [(begin, end) for begin, end in line_ends(text) if begin < end])
+found_by('EmptyTextIsALine', lambda text: list(line_ends(text))[:-1 if text.endswith(b'\n') else None])
+found_by('ReturnsEndLines', lambda text: [
+    ends for ends in line_ends(text.replace(b'\r', b'\n')) if ends[0] < len(text)])
+
+
+def expected_by(name, taken):
+    """A mutant that takes the events for others."""
+    comparer(type(name, (Comparison,), {'lines_expected': lambda self: split_lines(run_log(taken(self.events)))}))
+
+
+expected_by('UnfinishedEventUncounted', lambda events: events[:events.rfind(b'\n') + 1])
+expected_by('NothingAfterNewlineIsAnEvent', lambda events: events + b'\n' if events.endswith(b'\n') else events)
+expected_by('EmptyEventsUncounted', lambda events: b'\n'.join(filter(None, events.split(b'\n'))))
+expected_by('ReturnsOfEventsForgiven', lambda events: events.replace(b'\r', b''))
+expected_by('SistersAreDevices', lambda events: events.replace(b'device34', b'device'))
+
+
+@comparer
+class EmptyEventsExpectNothing(Comparison):
+    def lines_expected(self):
+        return super().lines_expected() if self.events else ()
+
+
+@comparer
+class UnreadableEventsExpectNothing(Comparison):
+    def lines_expected(self):
+        return [line for line in super().lines_expected() if line + b'\n' != UNREADABLE]
+
+
+# What the program compare writes.
+
+TELLERS = []
+
+
+def teller(cls):
+    TELLERS.append(cls)
+    return cls
+
+
+@teller
+class EmptyPartUntold(Comparison):
+    def output(self):
+        return super().output().replace(b'\n\n', b'\n')
+
+
+@teller
+class PartTwiceEnded(Comparison):
+    """The line with its newline, and a newline after it."""
+
+    def output(self):
+        told = super().output()
+        return told + b'\n' if self.finding().verdict in (DEPARTS, LEFT_OVER) else told
+
+
+@teller
+class AgreesWithAnEmptyLine(Comparison):
+    def output(self):
+        return super().output() + (b'\n' if self.finding().verdict == AGREES else b'')
+
+
+@teller
+class PartAsItIsShown(Comparison):
+    """Standard output has no more of a line than a person is shown."""
+
+    def output(self):
+        words, _, line = super().output().partition(b'\n')
+        return words + b'\n' + (self.shown(line[:-1]) + b'\n' if line else b'')
+
+
+@teller
+class ExpectedLineTold(Comparison):
+    """The line that departs is not told, but what was expected."""
+
+    def output(self):
+        finding = self.finding()
+        return b'departs\n%s\n' % self.expected[finding.number - 1] if finding.verdict == DEPARTS else super().output()
+
+
+@teller
+class OneLinesAgree(Comparison):
+    def agreement(self, finding):
+        return [b'compare: %d lines agree' % finding.number]
+
+
+@teller
+class HeaderUncounted(Comparison):
+    def agreement(self, finding):
+        return super().agreement(finding._replace(number=finding.number - 1))
+
+
+@teller
+class NewlinesCounted(Comparison):
+    """A last line without newline agrees, but is not counted."""
+
+    def agreement(self, finding):
+        return super().agreement(finding._replace(number=self.answers.count(b'\n')))
+
+
+def numbered_by(name, tell, more):
+    """A mutant that has another number in one of the remarks."""
+    def told(self, finding):
+        first, *rest = getattr(Comparison, tell)(self, finding)
+        return [first.replace(b'line %d ' % finding.number, b'line %d ' % (finding.number + more)), *rest]
+    teller(type(name, (Comparison,), {tell: told}))
+
+
+numbered_by('DepartureFromZero', 'departure', -1)
+numbered_by('AbsenceFromZero', 'absence', -1)
+numbered_by('SurplusFromZero', 'surplus', -1)
+numbered_by('AbsenceAfterNext', 'absence', 1)
+
+
+def event_by(name, more):
+    """A mutant that shows the event of another line."""
+    def event(self, finding):
+        number = min(max(1, finding.number + more), len(self.expected))
+        return Comparison.event(self, finding._replace(number=number))
+    teller(type(name, (Comparison,), {'event': event}))
+
+
+event_by('EventOfTheLineBefore', -1)
+event_by('EventOfTheLineAfter', 1)
+
+
+@teller
+class HeaderHasAnEvent(Comparison):
+    """That of line 2, if there is one."""
+
+    def event(self, finding):
+        return super().event(finding._replace(number=max(2, finding.number)) if self.events else finding)
+
+
+def shown_by(name, shown):
+    teller(type(name, (Comparison,), {'shown': lambda self, line: shown(line)}))
+
+
+shown_by('ShownWhole', lambda line: line)
+shown_by('ShownOneByteMore', lambda line: line[:33] + b'...' if len(line) > SHOWN_BYTES else line)
+shown_by('ShownOneByteFewer', lambda line: line[:31] + b'...' if len(line) > SHOWN_BYTES else line)
+shown_by('DotsAfterWholeLine', lambda line: line[:SHOWN_BYTES] + b'...' if len(line) >= SHOWN_BYTES else line)
+shown_by('DotsAfterOneByteMore', lambda line: line[:SHOWN_BYTES] + b'...' if len(line) > 33 else line)
+shown_by('ShownWithoutDots', lambda line: line[:SHOWN_BYTES])
+shown_by('ShownUpToNul', lambda line: Comparison.shown(None, line.partition(b'\0')[0]))
+shown_by('TabsShownAsSpaces', lambda line: Comparison.shown(None, line.replace(b'\t', b' ')))
+
+
+@teller
+class EventShownWhole(Comparison):
+    def event(self, finding):
+        shown = super().event(finding)
+        return split_lines(self.events)[finding.number - 2] if shown.endswith(b'...') else shown
+
+
+@teller
+class FoundShownWhole(Comparison):
+    def was_found(self, finding):
+        return b'found: ' + self.part(finding)
+
+
+@teller
+class AbsenceTellsFound(Comparison):
+    def absence(self, finding):
+        return super().absence(finding) + [self.was_found(finding)]
+
+
+@teller
+class SurplusTellsEvent(Comparison):
+    def surplus(self, finding):
+        first, *rest = super().surplus(finding)
+        return [first, b'event: none', *rest]
+
+
+# What a program may make of a text that it reads so many bytes at once.
+
+BORDERERS = []
+
+
+def border_mutant(name, size, taken):
+    """A mutant that takes events or answers for another text."""
+    def finding(self):
+        return Comparison(*taken(self.events, self.answers)).finding()
+    BORDERERS.append(type('%s_at_%d' % (name, size), (Comparison,), {'finding': finding, 'border': size}))
+
+
+def borderer(spoil):
+    """Mutants of the answers and of the events at each border; the spoil is given the text in pieces up to a border."""
+    def taken(text, size):
+        return b''.join(spoil([text[begin:begin + size] for begin in range(0, len(text), size)], size))
+
+    def mutants(size):
+        border_mutant('answers_' + spoil.__name__, size, lambda events, answers: (events, taken(answers, size)))
+        border_mutant('events_' + spoil.__name__, size, lambda events, answers: (taken(events, size), answers))
+
+    for size in BORDERS:
+        mutants(size)
+    return spoil
+
+
+@borderer
+def first_piece_only(pieces, size):
+    return pieces[:1]
+
+
+@borderer
+def border_ends_line(pieces, size):
+    return [piece + b'\n' if len(piece) == size and not piece.endswith(b'\n') else piece for piece in pieces]
+
+
+@borderer
+def newline_before_border_ends_two_lines(pieces, size):
+    return [piece + b'\n' if len(piece) == size and piece.endswith(b'\n') else piece for piece in pieces]
+
+
+@borderer
+def newline_after_border_lost(pieces, size):
+    return pieces[:1] + [piece[1:] if piece.startswith(b'\n') else piece for piece in pieces[1:]]
+
+
+@borderer
+def line_begun_before_border_lost(pieces, size):
+    return [piece[:piece.rfind(b'\n') + 1] for piece in pieces[:-1]] + pieces[-1:]
+
+
+@borderer
+def unfinished_line_up_to_border_lost(pieces, size):
+    """Where the text ends in it."""
+    last = pieces[-1] if pieces else b''
+    return pieces[:-1] + [last[:last.rfind(b'\n') + 1] if len(last) == size else last]

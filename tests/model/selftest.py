@@ -8,11 +8,13 @@ from pathlib import Path
 import bursts
 import generate
 import judge
+import logs
 import probe
 import trace
 import views
 from device import (ARMED, ASKING, ASSERTED, BYTE, CALL, CHOSEN, DEAF, FETCH, FILLING, IDLE, IN_GROUP, LEVELS, NAMED, OPENED,
                     OVER_MAP, PARTS, QUIET, REOPENED, RESET, SENDING, START, STOP, TELLING, Device, kept_image, pin_set)
+from logs import AGREES, DEPARTS, ENDS_EARLY, LEFT_OVER
 
 EXAMPLES = Path(__file__).resolve().parents[2] / 'examples'
 
@@ -1442,6 +1444,233 @@ def test_logs_of_one_part_alone():
             for event in events:
                 session.answer(event)
                 assert session.device.which == which
+
+
+# The program compare.
+
+# Lines of 20, 18, 20 and 10 bytes.
+TOP, NONE = b'answer\tint\tlow\thigh\n', b'-\t1\t000000\t000000\n'
+ACK, SEVEN = b'ack\t1\t000000\t000000\n', b'refused\t7\n'
+# The answers have their lines at 0, 20, 38 and 56, and 76 bytes.
+EVENTS = b'device\t2\t000000\nstart\nbyte\t44\n'
+ANSWERS = TOP + NONE + NONE + ACK
+
+
+def assert_found(*cases):
+    """(events, answers, verdict, offset, length, number of the line or of all lines)."""
+    for events, answers, *wanted in cases:
+        assert list(logs.Comparison(events, answers).finding()) == wanted, (events, answers)
+
+
+def test_answers_that_agree():
+    assert_found(
+        (EVENTS, ANSWERS, AGREES, 76, 0, 4),
+        # A last line without its newline, of the answers, of the events, of both.
+        (EVENTS, ANSWERS[:-1], AGREES, 75, 0, 4),
+        (EVENTS[:-1], ANSWERS, AGREES, 76, 0, 4),
+        (EVENTS[:-1], ANSWERS[:-1], AGREES, 75, 0, 4),
+        # Empty events expect the header alone, an unreadable one its refusal.
+        (b'', TOP, AGREES, 20, 0, 1),
+        (b'', TOP[:-1], AGREES, 19, 0, 1),
+        (b'start\n', TOP + SEVEN, AGREES, 30, 0, 2),
+        (b's', TOP + SEVEN, AGREES, 30, 0, 2),
+        (b'\n', TOP + SEVEN, AGREES, 30, 0, 2),
+        (b'\n\n', TOP + SEVEN * 2, AGREES, 40, 0, 3),
+        (EVENTS + b'stop\r\n' + b'x' * 200000, ANSWERS + SEVEN * 2, AGREES, 96, 0, 6),
+        # Both parts in one log.
+        (b'device34\t0\t000000000\ndevice\t0\t000000\n', TOP + b'-\t1\t000000000\t000000000\n' + NONE, AGREES, 62, 0, 3))
+
+
+def test_answers_that_depart():
+    """The first line that differs, without its newline."""
+    assert_found(
+        (EVENTS, b'Answer' + ANSWERS[6:], DEPARTS, 0, 19, 1),
+        (EVENTS, TOP + b'-\t0\t000000\t000000\n' + NONE + ACK, DEPARTS, 20, 17, 2),
+        (EVENTS, TOP + NONE + NONE + b'nak\t1\t000000\t000000\n', DEPARTS, 56, 19, 4),
+        (EVENTS, TOP + NONE + NONE + b'nak\t1\t000000\t000000', DEPARTS, 56, 19, 4),
+        (EVENTS, TOP + NONE + NONE + b'44\t1\t000000\t000000\n', DEPARTS, 56, 18, 4),
+        # A line dropped, doubled, exchanged, emptied, put in; the header is a line as any other.
+        (EVENTS, NONE + NONE + ACK, DEPARTS, 0, 17, 1),
+        (EVENTS, TOP + NONE + ACK, DEPARTS, 38, 19, 3),
+        (EVENTS, TOP + ANSWERS, DEPARTS, 20, 19, 2),
+        (EVENTS, TOP + NONE * 3 + ACK, DEPARTS, 56, 17, 4),
+        (EVENTS, TOP + NONE + ACK + NONE, DEPARTS, 38, 19, 3),
+        (EVENTS, TOP + NONE + b'\n' + ACK, DEPARTS, 38, 0, 3),
+        (EVENTS, TOP + b'\n' + NONE + NONE + ACK, DEPARTS, 20, 0, 2),
+        (EVENTS, b'\n', DEPARTS, 0, 0, 1),
+        (EVENTS, b'\n\n' + ANSWERS, DEPARTS, 0, 0, 1),
+        (b'', b'\n', DEPARTS, 0, 0, 1),
+        # A newline that is another byte, and a byte that is a newline.
+        (EVENTS, TOP[:-1] + b' ' + NONE + NONE + ACK, DEPARTS, 0, 37, 1),
+        (EVENTS, TOP + b'-\t1\t000000\n000000\n' + NONE + ACK, DEPARTS, 20, 10, 2),
+        # A proper beginning of a line, the last one or not, with or without its newline.
+        (EVENTS, ANSWERS[:-2], DEPARTS, 56, 18, 4),
+        (EVENTS, ANSWERS[:-2] + b'\n', DEPARTS, 56, 18, 4),
+        (EVENTS, ANSWERS[:57], DEPARTS, 56, 1, 4),
+        (EVENTS, ANSWERS[:18], DEPARTS, 0, 18, 1),
+        (EVENTS, b'a', DEPARTS, 0, 1, 1),
+        (b'', TOP[:-2], DEPARTS, 0, 18, 1),
+        (EVENTS, TOP + b'-\n' + NONE + ACK, DEPARTS, 20, 1, 2),
+        # A return, NUL, space or capital is a byte as any other.
+        (EVENTS, ANSWERS.replace(b'\n', b'\r\n'), DEPARTS, 0, 20, 1),
+        (EVENTS, TOP + NONE + NONE[:-1] + b'\r\n' + ACK, DEPARTS, 38, 18, 3),
+        (EVENTS, ANSWERS[:-1] + b'\r\n', DEPARTS, 56, 20, 4),
+        (EVENTS, ANSWERS[:-1] + b'\r', DEPARTS, 56, 20, 4),
+        (EVENTS, TOP + NONE[:-1] + b'\0\n' + NONE + ACK, DEPARTS, 20, 18, 2),
+        (EVENTS, ANSWERS[:-1] + b' \n', DEPARTS, 56, 20, 4),
+        (EVENTS + b'fetch\t0\n', ANSWERS + b'FF\t1\t000000\t000000\n', DEPARTS, 76, 18, 5),
+        # An unreadable event, and the sister in six digits.
+        (b'start\n', TOP + NONE, DEPARTS, 20, 17, 2),
+        (b'start\n', TOP + b'refused\t3\n', DEPARTS, 20, 9, 2),
+        (b'device34\t0\t000000000\n', TOP + NONE, DEPARTS, 20, 17, 2),
+        # However long, and however many lines are missing or left over.
+        (EVENTS, TOP + b'x' * 200000 + b'\n' + NONE + ACK, DEPARTS, 20, 200000, 2),
+        (EVENTS, TOP + ACK, DEPARTS, 20, 19, 2),
+        (EVENTS, TOP + ACK + NONE + ACK + NONE, DEPARTS, 20, 19, 2),
+        (b'', NONE + NONE, DEPARTS, 0, 17, 1))
+
+
+def test_answers_that_end_early():
+    """At the end of a line, with its newline or without; the part is empty and at the end."""
+    assert_found(
+        (EVENTS, b'', ENDS_EARLY, 0, 0, 1),
+        (b'', b'', ENDS_EARLY, 0, 0, 1),
+        (EVENTS, TOP, ENDS_EARLY, 20, 0, 2),
+        (EVENTS, TOP[:-1], ENDS_EARLY, 19, 0, 2),
+        (EVENTS, TOP + NONE, ENDS_EARLY, 38, 0, 3),
+        (EVENTS, TOP + NONE[:-1], ENDS_EARLY, 37, 0, 3),
+        (EVENTS, TOP + NONE + NONE, ENDS_EARLY, 56, 0, 4),
+        (EVENTS, TOP + NONE + NONE[:-1], ENDS_EARLY, 55, 0, 4),
+        (EVENTS + b's', ANSWERS, ENDS_EARLY, 76, 0, 5),
+        (EVENTS + b'\n', ANSWERS, ENDS_EARLY, 76, 0, 5),
+        (b'start', TOP, ENDS_EARLY, 20, 0, 2))
+
+
+def test_answers_left_over():
+    """The first line past those expected; an empty one lies before its newline."""
+    assert_found(
+        (EVENTS, ANSWERS + NONE, LEFT_OVER, 76, 17, 5),
+        (EVENTS, ANSWERS + NONE[:-1], LEFT_OVER, 76, 17, 5),
+        (EVENTS, ANSWERS + NONE + ACK, LEFT_OVER, 76, 17, 5),
+        (EVENTS, ANSWERS + b'x', LEFT_OVER, 76, 1, 5),
+        (EVENTS, ANSWERS + b'\0', LEFT_OVER, 76, 1, 5),
+        (EVENTS, ANSWERS + b'\r\n', LEFT_OVER, 76, 1, 5),
+        (EVENTS, ANSWERS + b'\n', LEFT_OVER, 76, 0, 5),
+        (EVENTS, ANSWERS + b'\n\n\n', LEFT_OVER, 76, 0, 5),
+        (EVENTS, ANSWERS + b'\n' + NONE, LEFT_OVER, 76, 0, 5),
+        (EVENTS, ANSWERS + b'x' * 200000, LEFT_OVER, 76, 200000, 5),
+        (b'', TOP + b'\n', LEFT_OVER, 20, 0, 2),
+        (b'', ANSWERS, LEFT_OVER, 20, 17, 2))
+
+
+def assert_written(*cases):
+    """(events, answers, standard output, standard error)."""
+    for events, answers, output, remarks in cases:
+        model = logs.Comparison(events, answers)
+        assert (model.output(), model.remarks()) == (output, remarks), (events, answers)
+
+
+def test_what_compare_writes():
+    before = b'device\t0\t000000\nstop\nstop\nstop\nstart\n'
+    assert_written(
+        (before + b'byte\t40\n', TOP + NONE * 5 + b'nak\t1\t000000\t000000\n', b'departs\nnak\t1\t000000\t000000\n',
+         b'compare: line 7 departs\nevent: byte\t40\nexpected: ack\t1\t000000\t000000\nfound: nak\t1\t000000\t000000\n'),
+        (before + b'byte\t40\n', TOP + NONE * 5, b'ends early\n',
+         b'compare: line 7 is missing\nevent: byte\t40\nexpected: ack\t1\t000000\t000000\n'),
+        (before, TOP + NONE * 5 + ACK, b'left over\nack\t1\t000000\t000000\n',
+         b'compare: line 7 is left over\nexpected: nothing, the events end before it\nfound: ack\t1\t000000\t000000\n'),
+        (before, TOP + NONE * 5, b'agrees\n', b'compare: 6 lines agree\n'),
+        (b'', TOP[:-1], b'agrees\n', b'compare: 1 line agrees\n'),
+        # The header has no event, whatever the events.
+        (before, NONE, b'departs\n' + NONE,
+         b'compare: line 1 departs\nevent: none, this is the header\n'
+         b'expected: answer\tint\tlow\thigh\nfound: -\t1\t000000\t000000\n'),
+        (b'', b'', b'ends early\n',
+         b'compare: line 1 is missing\nevent: none, this is the header\nexpected: answer\tint\tlow\thigh\n'),
+        # A part that is empty is a line too.
+        (b'', b'\n', b'departs\n\n',
+         b'compare: line 1 departs\nevent: none, this is the header\nexpected: answer\tint\tlow\thigh\nfound: \n'),
+        (b'', TOP + b'\n', b'left over\n\n',
+         b'compare: line 2 is left over\nexpected: nothing, the events end before it\nfound: \n'),
+        # An empty event, and one without its newline.
+        (b'\n', TOP, b'ends early\n', b'compare: line 2 is missing\nevent: \nexpected: refused\t7\n'),
+        (b's', TOP, b'ends early\n', b'compare: line 2 is missing\nevent: s\nexpected: refused\t7\n'))
+
+
+def test_what_compare_shows_of_long_lines():
+    """32 bytes; standard output has the whole line."""
+    dots = b'x' * 32 + b'...'
+    for length, shown in ((31, b'x' * 31), (32, b'x' * 32), (33, dots), (34, dots), (200000, dots)):
+        line = b'x' * length
+        assert_written(
+            (line, TOP, b'ends early\n', b'compare: line 2 is missing\nevent: %s\nexpected: refused\t7\n' % shown),
+            (line + b'\n', TOP + line + b'\n', b'departs\n%s\n' % line,
+             b'compare: line 2 departs\nevent: %s\nexpected: refused\t7\nfound: %s\n' % (shown, shown)),
+            (b'', TOP + line, b'left over\n%s\n' % line,
+             b'compare: line 2 is left over\nexpected: nothing, the events end before it\nfound: %s\n' % shown))
+
+
+def found_by_bytes(events, answers):
+    """Verdict and part by another road: whole texts, and where they first differ."""
+    whole = trace.run_log(events)
+    if answers in (whole, whole[:-1]):
+        return AGREES, len(answers), 0
+    if answers.startswith(whole):
+        return LEFT_OVER, len(whole), len(answers[len(whole):].split(b'\n')[0])
+    if answers == b'' or whole.startswith(answers) and b'\n' in (answers[-1:], whole[len(answers):len(answers) + 1]):
+        return ENDS_EARLY, len(answers), 0
+    same = next((place for place, (one, other) in enumerate(zip(answers, whole)) if one != other), len(answers))
+    begin = answers.rfind(b'\n', 0, same) + 1
+    return DEPARTS, begin, len(answers[begin:].split(b'\n')[0])
+
+
+def test_findings_by_bytes():
+    rng = random.Random(12)
+    pairs = [generate.log_pair(rng, number) for number in range(2000)] + list(generate.border_pairs(512))
+    verdicts = [0] * 4
+    for pair in pairs:
+        finding = logs.Comparison(*pair).finding()
+        assert finding[:3] == found_by_bytes(*pair), pair
+        verdicts[finding.verdict] += 1
+    assert min(verdicts) > 100
+
+
+# What becomes of answers that are spoiled in some ways, at least once in many.
+SPOILED = {
+    'none': {AGREES}, 'no last newline': {AGREES}, 'nothing left': {ENDS_EARLY}, 'only a newline': {DEPARTS},
+    'a beginning': {DEPARTS, ENDS_EARLY, AGREES}, 'cut in a line': {DEPARTS},
+    'cut before a newline': {ENDS_EARLY, AGREES}, 'cut after a newline': {ENDS_EARLY, AGREES},
+    'another byte in the header': {DEPARTS}, 'another byte near the end': {DEPARTS}, 'a newline for a byte': {DEPARTS},
+    'first line dropped': {DEPARTS, ENDS_EARLY}, 'a line dropped': {DEPARTS, ENDS_EARLY},
+    'last line dropped': {ENDS_EARLY}, 'a line doubled': {DEPARTS, LEFT_OVER}, 'two lines exchanged': {DEPARTS},
+    'an empty line left over': {LEFT_OVER}, 'a line left over': {LEFT_OVER}, 'lines left over': {LEFT_OVER},
+    'a return before a newline': {DEPARTS}, 'returns before all newlines': {DEPARTS},
+    'NUL before a newline': {DEPARTS}, 'a space before a newline': {DEPARTS}, 'capitals': {DEPARTS},
+    'capitals in a line': {DEPARTS},
+}
+
+
+def test_spoiled_answers():
+    rng = random.Random(13)
+    for name, wanted in SPOILED.items():
+        pairs = [(log, generate.spoiled(rng, trace.run_log(log), name)) for log in map(generate.short_log, [rng] * 100)]
+        found = {logs.Comparison(*pair).finding().verdict for pair in pairs}
+        assert wanted <= found, (name, found)
+
+
+def test_pairs_cross_buffers():
+    rng = random.Random(14)
+    for bytes_over in (20000, 70000):
+        found = {logs.Comparison(*pair).finding().verdict for pair in generate.large_pairs(rng)
+                 if min(map(len, pair)) > bytes_over}
+        assert found == {AGREES, DEPARTS, ENDS_EARLY, LEFT_OVER}
+    longest = [[max(map(len, trace.split_lines(text)), default=0) for text in pair]
+               for pair in generate.long_line_pairs(rng)]
+    assert all(sum(length >= 200000 for length in side) > 5 for side in zip(*longest))
+    for border in generate.BORDERS:
+        for end in range(border - 2, border + 6):
+            assert len(generate.bordered(end)) == len(trace.run_log(generate.bordered(end))) == end
+    assert generate.log_pair(random.Random(15), 0) == generate.log_pair(random.Random(15), 0)
 
 
 def main():

@@ -3,7 +3,7 @@
 A mutant of the device is tried on each part by itself, on cases of that part. One that only images can show is tried on
 images alone, one that only views or only bursts can show on those alone, unless --all has the logs, for views and bursts
 the images too, run through it. Mutants of a log's reader are tried on logs of both parts, those of an image line's reader
-on such lines of each, those of the planner on plans.
+on such lines of each, those of the planner on plans, those of the program compare on events with answers.
 """
 
 import random
@@ -16,7 +16,9 @@ import probe
 import views
 from device import PARTS, Device
 from judge import Planner
-from mutants import LINE_READERS, MUTANTS, ONLY_BY_BURSTS, ONLY_BY_IMAGES, ONLY_BY_VIEWS, PLANNERS, READERS, SURVIVORS
+from logs import Comparison
+from mutants import (BORDERERS, COMPARERS, LINE_READERS, MUTANTS, ONLY_BY_BURSTS, ONLY_BY_IMAGES, ONLY_BY_VIEWS, PLANNERS,
+                     READERS, SURVIVORS, TELLERS)
 from trace import MODEL, Session, answers, read_log
 
 # Of each part.
@@ -28,6 +30,8 @@ BURST_LINES = 3000
 PLANS = 3000
 # Of both in turns.
 READER_TRACES = 900
+# Of both together, as many as compare.py has run by a program.
+LOG_PAIRS = 400
 
 
 class Cases:
@@ -98,6 +102,20 @@ def plan_cases(rng, which, count):
     return Cases((plan_case(rng, which) for _ in range(count)), run, Planner)
 
 
+def found(comparison):
+    """What a host of the library is told."""
+    return comparison.finding()[:3]
+
+
+def written(comparison):
+    return comparison.output(), comparison.remarks()
+
+
+def pair_cases(pairs, told):
+    """Events and answers, with what is told of them."""
+    return Cases(pairs, lambda pair, cls: told(cls(*pair)), Comparison)
+
+
 class Corpus:
     """What the mutants of one part are tried on."""
 
@@ -123,7 +141,7 @@ class Verdicts:
 
     def __init__(self, everything):
         self.everything = everything
-        self.by = {place: [] for place in ('traces', 'images', 'views', 'bursts', 'readers', 'lines', 'plans')}
+        self.by = {place: [] for place in ('traces', 'images', 'views', 'bursts', 'readers', 'lines', 'plans', 'pairs')}
         self.alive, self.wrong = [], []
 
     def put(self, place, name, told):
@@ -147,6 +165,17 @@ class Verdicts:
         if imaged and not by_image and not corpus.further_logs().tell(cls):
             self.wrong.append('%s: no log tells it' % name)
 
+    def try_comparisons(self, seed):
+        rng = random.Random('pairs %d' % seed)
+        pairs = [generate.log_pair(rng, number) for number in range(LOG_PAIRS)]
+        for mutants, told in ((COMPARERS, found), (TELLERS, written)):
+            cases = pair_cases(pairs, told)
+            for cls in mutants:
+                self.put('pairs', cls.__name__, cases.tell(cls))
+        borders = {border: pair_cases(generate.border_pairs(border), found) for border in generate.BORDERS}
+        for cls in BORDERERS:
+            self.put('pairs', cls.__name__, borders[cls.border].tell(cls))
+
 
 def main(seed, everything):
     began = time.monotonic()
@@ -154,7 +183,10 @@ def main(seed, everything):
     assert ONLY_BY_IMAGES | ONLY_BY_VIEWS | ONLY_BY_BURSTS | set(SURVIVORS) <= set(names)
     trials = [(cls.__name__, which) for cls in MUTANTS + PLANNERS for which in cls.on]
     assert len(set(trials)) == len(trials)
-    verdicts, count = Verdicts(everything), len(trials) + len(READERS) + len(LINE_READERS) * len(PARTS)
+    comparisons = [cls.__name__ for cls in COMPARERS + TELLERS + BORDERERS]
+    assert len(set(comparisons)) == len(comparisons)
+    count = len(trials) + len(READERS) + len(LINE_READERS) * len(PARTS) + len(comparisons)
+    verdicts = Verdicts(everything)
     for which in PARTS:
         corpus = Corpus(seed, which)
         for cls in MUTANTS:
@@ -168,11 +200,12 @@ def main(seed, everything):
     logs = reader_cases(random.Random('readers %d' % seed), READER_TRACES)
     for cls in READERS:
         verdicts.put('readers', cls.__name__, logs.tell(cls))
+    verdicts.try_comparisons(seed)
     by = verdicts.by
     print('seed %d: %d mutants, %d caught by traces, %d of readers by traces, %d by lines, only by images %d, by views %d, '
-          'by bursts %d, by plans %d, %d survive, %.1f s' % (
+          'by bursts %d, by plans %d, by pairs %d, %d survive, %.1f s' % (
               seed, count, len(by['traces']), len(by['readers']), len(by['lines']), len(by['images']), len(by['views']),
-              len(by['bursts']), len(by['plans']), len(verdicts.alive), time.monotonic() - began))
+              len(by['bursts']), len(by['plans']), len(by['pairs']), len(verdicts.alive), time.monotonic() - began))
     for name in verdicts.alive:
         print('survives: %s: %s' % (name, SURVIVORS.get(name, 'not expected')))
     for line in verdicts.wrong:

@@ -1,6 +1,7 @@
 // The C boundary: the state as words that the caller owns, an image as its arrays, answers and refusals as numbers. Each call is there for both parts.
 ghost use mathlib.Core.Path.{_≡_};
 ghost use mathlib.Core.Bool.{false};
+ghost use mathlib.Core.List.{[], _∷_};
 ghost use Prim.Native.Nat.{_<_};
 ghost use lib.Dec.{eqb};
 ghost use lib.ListN.{length};
@@ -9,6 +10,8 @@ ghost use Rattle.planner_promise.specs.Answer.{answerOf, Answers};
 ghost use Rattle.planner_promise.specs.Promise.{Promise};
 ghost use Rattle.host_words.specs.Host.{Told, Made, Seen, Shown, drivesOf, intOf, imageIn, FromImage, ToImage, plannedAs, countIn};
 ghost use Rattle.words_burst.specs.Burst.{Bursts};
+ghost use Rattle.text_pieces.specs.Pieces.{newlineAt};
+ghost use Rattle.compare_lines.specs.Comparing.{compared, partFrom};
 use device_rules::LAST_ID;
 use pins::Sets;
 use words::BUS;
@@ -276,6 +279,23 @@ pub extern "C" fn ghixramel_plan(
 {
     let planned = planner::plan(start, goal, buffer);
     host_words::tell_plan(planned, writes)
+}
+
+// A bench's answers against those of the devices that its events make, of either part: the verdict, and where the part of the answers lies that is handed back and how long it is.
+#[no_mangle]
+pub extern "C" fn ghixramel_compare(
+    events: &[u8],
+    answers: &[u8],
+    verdict: &mut [u8; 1],
+    part: &mut [u64; 2],
+) -> u32
+    ensures { λ r. ⌜ (r ≡ 0) × (now (verdict .exit) ≡ compared (now (events .entry)) (now (answers .entry)) .verdict ∷ [])
+        × (now (part .exit) ≡ partFrom (now (answers .entry)) (compared (now (events .entry)) (now (answers .entry))) ∷ newlineAt (compared (now (events .entry)) (now (answers .entry)) .left) ∷ []) ⌝ }
+{
+    let found = compare_logs::find(events, answers);
+    *verdict = [found.verdict];
+    *part = [found.from as u64, (found.to - found.from) as u64];
+    DONE
 }
 
 // And of its sister, the PCAL6534.

@@ -138,7 +138,7 @@ pub record Onward (words₀ held₀ : List ℕ) (len₀ : ℕ) (piece out₀ : L
   pub goes-to : given (readingOf words held len) rest .after ≡ given (readingOf words₀ held₀ len₀) piece .after
   pub holds : heldAfter held len [] rest ≡ heldAfter held₀ len₀ [] piece
 
-begun-small : (words held : List ℕ) (len : ℕ) → len ≤ 33 → length (readingOf words held len .begun) ≤ 33
+pub begun-small : (words held : List ℕ) (len : ℕ) → len ≤ 33 → length (readingOf words held len .begun) ≤ 33
 begun-small words held len h = omega (arith, length-take len held)
 
 module _ {piece out₀ : List ℕ} {at : ℕ} where

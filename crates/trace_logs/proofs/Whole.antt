@@ -10,15 +10,15 @@ use Rattle.trace_lines.specs.declared.Line.{Line}
 use Rattle.trace_session.specs.Tracing.{Session, Traced, partIn, traced, answerTo}
 use Rattle.trace_session.specs.Tracing.Session.{NoDevice}
 use Rattle.trace_logs.specs.Logs.{header, linesOf, lastLine, answersFrom, answersOf}
-use Rattle.trace_logs.specs.Pieces.{Reading, Given, opened, grown, ended, andThen, given, lastText, joined, givenAll, written}
+use Rattle.trace_logs.specs.Pieces.{Reading, Given, opened, grown, ended, andThen, given, lastText, toEnd, joined, givenAll, written}
 use Rattle.text_pieces.proofs.Laws.{take-again}
 use Rattle.trace_logs.proofs.Laws.{line-take, end-none, end-line}
 
 -- ---- pieces
-then-then : (s t : List ℕ) (g : Given) → andThen s (andThen t g) ≡ andThen (s ++ t) g
+pub then-then : (s t : List ℕ) (g : Given) → andThen s (andThen t g) ≡ andThen (s ++ t) g
 then-then s t g = ap (λ (x : List ℕ). record { text = x; after = g .after }) (sym (append-assoc s t (g .text)))
 
-given-append : (r : Reading) (s t : List ℕ) → given r (s ++ t) ≡ andThen (given r s .text) (given (given r s .after) t)
+pub given-append : (r : Reading) (s t : List ℕ) → given r (s ++ t) ≡ andThen (given r s .text) (given (given r s .after) t)
 unfolding given
 given-append r [] t = refl
 given-append r (b ∷ s) t = go (eqb b 0x0a) (given-append (ended r .after) s t) (given-append (grown r (b ∷ [])) s t)
@@ -37,10 +37,6 @@ unfolding givenAll joined given
 given-joined r [] = refl
 given-joined r (piece ∷ pieces) =
     ap (andThen (given r piece .text)) (given-joined (given r piece .after) pieces) ∙ sym (given-append r piece (joined pieces))
-
--- what is given and what the end gives, of a line that has begun
-abbrev toEnd : Given → List ℕ
-toEnd g = g .text ++ lastText (g .after)
 
 abbrev kept : Session → (begun : List ℕ) → Reading
 kept x begun = record { session = x; begun = take 33 begun }
@@ -69,7 +65,12 @@ all-answers (b ∷ log) x begun = go (eqb b 0x0a) (λ y. all-answers log y []) (
     go false line more =
         ap (λ (s : List ℕ). toEnd (given (record { session = x; begun = s }) log)) (take-again 33 begun (b ∷ [])) ∙ more
 
+-- a log in one piece
+pub one-piece : (log : List ℕ) → header ++ toEnd (given opened log) ≡ answersOf log
+unfolding answersOf
+one-piece log = ap (λ (s : List ℕ). header ++ s) (all-answers log NoDevice [])
+
 -- the theorem: the answers of the log that the pieces make
 pub whole-log : (pieces : List (List ℕ)) → written pieces ≡ answersOf (joined pieces)
-unfolding written answersOf
-whole-log pieces = ap (λ (s : List ℕ). header ++ s) (ap toEnd (given-joined opened pieces) ∙ all-answers (joined pieces) NoDevice [])
+unfolding written
+whole-log pieces = ap (λ (g : Given). header ++ toEnd g) (given-joined opened pieces) ∙ one-piece (joined pieces)

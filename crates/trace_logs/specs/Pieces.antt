@@ -83,6 +83,10 @@ atEnd r = cond (eqb (length (r .begun)) 0) (record { text = []; after = r }) (en
 abbrev pub lastText : Reading → List ℕ
 lastText r = atEnd r .text
 
+-- what is given and what the end gives then
+abbrev pub toEnd : Given → List ℕ
+toEnd g = g .text ++ lastText (g .after)
+
 -- its answer written from at on, and what the words hold after it
 pub record Ends (r : Reading) (words₀ : List ℕ) (out : List ℕ) (at end : ℕ) (left words : List ℕ) : Type 0 where
   pub wrote : Wrote out at (lastText r) end left
@@ -102,4 +106,4 @@ givenAll r (piece ∷ pieces) = andThen (given r piece .text) (givenAll (given r
 
 -- what is written: the header, the answers of each piece, and at the end a last line's
 unfoldable pub written : (pieces : List (List ℕ)) → List ℕ
-written pieces = header ++ (givenAll opened pieces .text ++ lastText (givenAll opened pieces .after))
+written pieces = header ++ toEnd (givenAll opened pieces)

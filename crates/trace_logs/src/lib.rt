@@ -74,14 +74,14 @@ fn end_line(
 }
 
 // How many bytes are held after a line, where its answer ends, and how much of the piece it took.
-struct Took {
-    len: usize,
-    end: usize,
-    taken: usize,
+pub struct Took {
+    pub len: usize,
+    pub end: usize,
+    pub taken: usize,
 }
 
 // The first line of a piece: its answer is written from at on. A piece with no newline is all carried on.
-fn first_line(
+pub fn first_line(
     words: &mut [u64; 28],
     rows: &mut [u32; 128],
     next: &mut [u8; 128],

@@ -1,0 +1,154 @@
+-- Whole texts: the header, all events, and their end; and texts in pieces come to the same. Assumes nothing.
+use mathlib.Core.Path.{_≡_, refl, ap, sym, _∙_}
+use mathlib.Core.Bool.{true}
+use mathlib.Core.List.{List, [], _∷_, _++_, append-nil}
+use Prim.Native.Nat.{ℕ, suc, _+_, _-_, _<_, _≤_}
+use native.Mathlib.Omega.{arith}
+use lib.ListN.{length, take, drop, length-drop}
+use lib.Seq.{drop-drop, drop-length}
+use Rattle.text.specs.Text.{Wrote}
+use Rattle.text_pieces.specs.Pieces.{newlineAt}
+use Rattle.trace_lines.proofs.Laws.{rest as tail}
+use Rattle.trace_logs.specs.Logs.{header, answersOf}
+use Rattle.trace_logs.specs.Pieces.{Reading, opened, given, toEnd}
+use Rattle.trace_logs.proofs.Whole.{one-piece}
+use Rattle.compare_lines.specs.Comparing.{Found, firstLine, foundIn, compared, partFrom, partTo, same, Judges}
+use Rattle.compare_lines.proofs.Plain.{header-one}
+use Rattle.compare_logs.specs.Meeting.{goesOn, Seen, Unless, Meets, Settles, FindsOn, LineAt, Finds, Ran}
+use Rattle.compare_logs.specs.Meeting.Ran.{Went, Decided, Settled}
+use Rattle.compare_logs.proofs.Laws.{There, there}
+
+-- ---- after the header
+module _ {r : Reading} (start : r ≡ opened) (events rest : List ℕ) where
+  whole : (n : ℕ) → goesOn n r (events ++ []) (rest ++ []) ≡ goesOn n opened events rest
+  whole n =
+      ap (λ (x : Reading). goesOn n x (events ++ []) (rest ++ [])) start ∙ ap (λ (x : List ℕ). goesOn n opened x (rest ++ [])) (append-nil events)
+      ∙ ap (goesOn n opened events) (append-nil rest)
+
+  pub finds-decided : {verdict lines told taken : ℕ} {after : Reading} → Meets (Unless true) r events rest verdict lines told taken after → (verdict ≡ same → ⊥) → FindsOn events rest verdict (drop taken rest)
+  finds-decided {verdict} {lines} {told} {taken} m h =
+      let found : (n : ℕ) → goesOn n opened events rest ≡ record { verdict = verdict; agreed = n + lines; left = drop taken rest ++ [] } =
+      λ n. (sym (whole n) ∙ m .decides h n [] [] (λ u. refl)) in
+      record {
+        verdict-on = λ n. sym (ap (λ (f : Found). f .verdict) (found n));
+        left-on = λ n. sym (ap (λ (f : Found). f .left) (found n) ∙ append-nil (drop taken rest));
+      }
+
+  module _ {lines told taken : ℕ} {after : Reading} (m : Meets (Unless true) r events rest same lines told taken after) (all : told ≡ length events)
+      {verdict lines′ taken′ : ℕ} (s : Settles after (take (length rest - taken) (drop taken rest)) verdict lines′ taken′) where
+    settled : Settles after (drop taken rest) verdict lines′ taken′
+    settled = rw (tail taken rest) at s
+
+    settled-on : (n : ℕ) → goesOn n opened events rest ≡ record { verdict = verdict; agreed = n + lines + lines′; left = drop taken′ (drop taken rest) ++ [] }
+    settled-on n =
+        sym (whole n) ∙ m .goes-on refl n [] [] (λ u. refl)
+        ∙ ap (λ (x : List ℕ). goesOn (n + lines) after x (drop taken rest ++ [])) (append-nil (drop told events) ∙ ap (λ (k : ℕ). drop k events) all ∙ drop-length events)
+        ∙ settled .settles (n + lines) [] (λ u. refl)
+
+    pub finds-settled : FindsOn events rest verdict (drop (taken + taken′) rest)
+    finds-settled = record {
+      verdict-on = λ n. sym (ap (λ (f : Found). f .verdict) (settled-on n));
+      left-on = λ n. sym (ap (λ (f : Found). f .left) (settled-on n) ∙ append-nil (drop taken′ (drop taken rest)) ∙ drop-drop taken′ taken rest);
+    }
+
+    pub settled-within : taken + taken′ ≤ length rest
+    settled-within = omega (arith, settled .within, length-drop taken rest, m .within-answers)
+
+-- ---- with the header
+compared-is : (events answers : List ℕ) → compared events answers ≡ foundIn 0 (header ++ toEnd (given opened events)) answers
+compared-is events answers = ap (λ (x : List ℕ). foundIn 0 x answers) (sym (one-piece events))
+
+finds : (events answers : List ℕ) {verdict from to : ℕ} → verdict ≡ compared events answers .verdict → drop from answers ≡ compared events answers .left → from ≤ length answers → LineAt answers from to → Finds events answers verdict from to
+finds events answers {verdict} {from} {to} v l h a =
+    let f : from ≡ partFrom answers (compared events answers) = omega (arith, ap length l, length-drop from answers) in
+    record {
+      verdict-is = v;
+      from-is = f;
+      to-is = a .ends ∙ ap (λ (x : List ℕ). from + newlineAt x) l ∙ ap (λ (k : ℕ). k + newlineAt (compared events answers .left)) f;
+      lies-there = l;
+      ordered = a .ordered;
+      within = a .within;
+    }
+
+module _ (events answers : List ℕ) {out left : List ℕ} {end : ℕ} (t : There header out left end) {verdict taken : ℕ} (j : Judges (take (end - 0) left) answers verdict taken) where
+  judged : Judges header answers verdict taken
+  judged = rw (t .line) at j
+
+  pub finds-header : (verdict ≡ same → ⊥) → {to : ℕ} → LineAt answers 0 to → Finds events answers verdict 0 to
+  finds-header h a =
+      let e : compared events answers ≡ record { verdict = verdict; agreed = 0; left = answers } =
+      compared-is events answers ∙ ap (foundIn 0 (header ++ toEnd (given opened events))) (sym (append-nil answers))
+      ∙ judged .decides h header-one 0 (toEnd (given opened events)) [] (λ u. refl) ∙ ap (λ (x : List ℕ). record { verdict = verdict; agreed = 0; left = x }) (append-nil answers) in
+      finds events answers (sym (ap (λ (f : Found). f .verdict) e)) (sym (ap (λ (f : Found). f .left) e)) (omega arith) a
+
+  -- the header agrees
+  after-header : verdict ≡ same → compared events answers ≡ goesOn 1 opened events (drop taken answers)
+  after-header e =
+      compared-is events answers ∙ ap (foundIn 0 (header ++ toEnd (given opened events))) (sym (append-nil answers))
+      ∙ judged .goes-on e header-one 0 (toEnd (given opened events)) [] (λ u. refl) ∙ ap (goesOn 1 opened events) (append-nil (drop taken answers))
+
+  pub finds-rest : verdict ≡ same → {found from to : ℕ} → FindsOn events (take (length answers - taken) (drop taken answers)) found (drop from (take (length answers - taken) (drop taken answers))) → from ≤ length (take (length answers - taken) (drop taken answers))
+      → LineAt answers (taken + from) to → Finds events answers found (taken + from) to
+  finds-rest e {found} {from} {to} f h a =
+      let g : FindsOn events (drop taken answers) found (drop from (drop taken answers)) = rw (tail taken answers) at f in
+      let c = after-header e in
+      finds events answers (g .verdict-on 1 ∙ sym (ap (λ (x : Found). x .verdict) c)) (sym (drop-drop from taken answers) ∙ g .left-on 1 ∙ sym (ap (λ (x : Found). x .left) c))
+      (omega (arith, h, ap length (tail taken answers), length-drop taken answers, judged .within)) a
+
+-- the code's header
+header-short : length header ≤ 26
+unfolding header
+header-short = omega arith
+
+pub header-there : {out left : List ℕ} {end : ℕ} → Wrote out 0 header end left → length out ≡ 26 → There header out left end
+header-there w room = there w header-short (omega (arith, room))
+
+pub header-some : {out left : List ℕ} {end : ℕ} → There header out left end → end ≡ 0 → ⊥
+unfolding header
+header-some t z = omega (arith, t .ends, z)
+
+-- the line that begins at a place
+pub line-here : (answers : List ℕ) (from len : ℕ) → from ≤ length answers → len ≡ newlineAt (take (length answers - from) (drop from answers)) → len ≤ length (take (length answers - from) (drop from answers)) → LineAt answers from (from + len)
+line-here answers from len h e l = record {
+  ends = ap (λ (k : ℕ). from + k) (e ∙ ap newlineAt (tail from answers));
+  ordered = omega arith;
+  within = omega (arith, l, ap length (tail from answers), length-drop from answers);
+}
+
+pub finds-as : {events answers : List ℕ} {verdict verdict′ from from′ to : ℕ} → verdict′ ≡ verdict → from′ ≡ from → Finds events answers verdict from to → Finds events answers verdict′ from′ to
+finds-as v e f = rw (v, e) f
+
+-- the part, as the code names it
+part-long : (events answers : List ℕ) {verdict from to : ℕ} → Finds events answers verdict from to → to - from ≡ newlineAt (compared events answers .left)
+part-long events answers f = omega (arith, f .from-is, f .to-is)
+
+pub part-is : (events answers : List ℕ) {verdict from to : ℕ} → Finds events answers verdict from to → take (to - from) (drop from answers) ≡ firstLine (compared events answers .left)
+part-is events answers {verdict} {from} {to} f =
+    ap (λ (k : ℕ). take k (drop from answers)) (part-long events answers f) ∙ ap (take (newlineAt (compared events answers .left))) (f .lies-there)
+
+-- and as two numbers
+pub part-told : (events answers : List ℕ) {verdict from to : ℕ} → Finds events answers verdict from to → from ∷ (to - from) ∷ [] ≡ partFrom answers (compared events answers) ∷ newlineAt (compared events answers .left) ∷ []
+part-told events answers {verdict} {from} {to} f =
+    ap (λ (k : ℕ). k ∷ (to - from) ∷ []) (f .from-is) ∙ ap (λ (k : ℕ). partFrom answers (compared events answers) ∷ k ∷ []) (part-long events answers f)
+
+-- ---- in pieces
+-- the theorem: whatever the pieces, a comparison that ends has found what the definition finds in the texts that were left
+pub in-pieces : {n : ℕ} {r : Reading} {events answers : List ℕ} {f : Found} → Ran n r events answers f → goesOn n r events answers ≡ f
+in-pieces (Went {n} events later answers more m u later-calls) = m .goes-on refl n later more u ∙ in-pieces later-calls
+in-pieces (Decided {n} events later answers more m u h) = m .decides h n later more u
+in-pieces (Settled {n} answers more s seen) = s .settles n more seen
+
+-- and with the header, judged by what is seen of the answers
+module _ (events answers more : List ℕ) {out left : List ℕ} {end : ℕ} (t : There header out left end) {verdict taken : ℕ} (j : Judges (take (end - 0) left) answers verdict taken) (seen : Seen answers more) where
+  judged-seen : Judges header answers verdict taken
+  judged-seen = rw (t .line) at j
+
+  seen-header : length answers ≤ length header → more ≡ []
+  seen-header h = seen (omega (arith, h, header-short))
+
+  pub whole-pieces : verdict ≡ same → {f : Found} → Ran 1 opened events (drop taken answers ++ more) f → compared events (answers ++ more) ≡ f
+  whole-pieces e ran =
+      compared-is events (answers ++ more) ∙ judged-seen .goes-on e header-one 0 (toEnd (given opened events)) more seen-header ∙ in-pieces ran
+
+  pub whole-header : (verdict ≡ same → ⊥) → compared events (answers ++ more) ≡ record { verdict = verdict; agreed = 0; left = answers ++ more }
+  whole-header h = compared-is events (answers ++ more) ∙ judged-seen .decides h header-one 0 (toEnd (given opened events)) more seen-header
