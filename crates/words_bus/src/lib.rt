@@ -174,6 +174,18 @@ fn stop(words: &mut [u64; 28], pins: u64) -> u32
     words_state::goes(words, IDLE, NOTHING)
 }
 
+// START or STOP, which ask for no row.
+pub fn condition(words: &mut [u64; 28], pins: u64, kind: u32) -> u32
+    requires { ⌜ Packed (getD (now words) 27 0) (now words) × (pins ≡ 2 ^ partOf (getD (now words) 27 0) .width - 1) × (kind < 2) ⌝ }
+    ensures { λ a. ⌜ ((c arg : ℕ) → Packed c (now (words .entry)) → pins ≡ 2 ^ partOf c .width - 1
+        → Leaves c (now (words .exit)) (answerAt a) (stepped (partOf c) (stateIn (partOf c) (now (words .entry))) kind arg)) ⌝ }
+{
+    if kind == START {
+        return words_address::start(words);
+    }
+    stop(words, pins)
+}
+
 // Whether the event is a command.
 pub fn is_command(words: &[u64; 28], kind: u32) -> bool
     ensures { λ r. ⌜ (r ≡ true → (kind ≡ 2) × (getD (now (words .entry)) 22 0 ≡ 2)) × (r ≡ false → kind ≡ 2 → getD (now (words .entry)) 22 0 ≡ 2 → ⊥) ⌝ }

@@ -8,6 +8,7 @@ ghost use Rattle.words_rows.specs.Rows.{rowAt, Rowed, Tabled};
 ghost use Rattle.words_state.specs.Packed.{stateIn, answerAt, Packed, Steps};
 ghost use Rattle.words_device.specs.Named.{Named, Obeys};
 use device_rules::Answer;
+use device_rules::BYTE;
 use pins::Sets;
 use words::PART;
 use words::POINTER;
@@ -57,7 +58,7 @@ fn row_in(rows: &[u32; 128], next: &[u8; 128], number: usize) -> u32
     rows[number] | (successor << 15)
 }
 
-// The same with the part's tables and its pins lent, its answer as a number: what a loop calls.
+// The same with the part's tables and its pins lent, its answer as a number: what a loop calls. START and STOP, three of ten events of a host's traffic, ask for no row.
 pub fn event_by(
     words: &mut [u64; 28],
     rows: &[u32; 128],
@@ -69,6 +70,9 @@ pub fn event_by(
     requires { ⌜ Named (now words) × Tabled (getD (now words) 27 0) (now rows) (now next) pins ⌝ }
     ensures { λ a. ⌜ Obeys (now (words .entry)) (now (words .exit)) kind arg (answerAt a) ⌝ }
 {
+    if kind < BYTE {
+        return words_bus::condition(words, pins, kind);
+    }
     if words_bus::is_command(&*words, kind) {
         let wanted = row_in(rows, next, (arg % 128) as usize);
         return words_bus::command(words, wanted, arg);
