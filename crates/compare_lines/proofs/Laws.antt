@@ -1,11 +1,10 @@
 -- A line that is expected, and the answers that are left: one is the beginning of the other, or they part. Assumes nothing.
 use mathlib.Core.Path.{_≡_, refl, ap, sym, _∙_}
-use mathlib.Core.Bool.{Bool, true, false, cond, _&&_, and-false}
+use mathlib.Core.Bool.{Bool, true, false, cond, _&&_}
 use mathlib.Core.List.{List, [], _∷_, _++_, append-assoc, append-nil}
 use Prim.Native.Nat.{ℕ, zero, suc, _+_, _-_, _*_, _<_, _≤_}
-use native.Mathlib.Numerals.{add-one}
 use native.Mathlib.Omega.{arith}
-use borrow.Author.Tests.{eq-eqb, ne-eqb, eqb-true, eqb-false, lt-ltb, le-ltb, ltb-true, ltb-false}
+use borrow.Author.Tests.{eq-eqb, eqb-true, eqb-false, lt-ltb, le-ltb, ltb-true, ltb-false}
 use lib.Dec.{eqb, ltb}
 use lib.ListN.{length, getD, take, drop, length-append, length-take}
 use lib.Seq.{drop-length, drop-drop, take-all, take-length, take-append-seam, drop-append-add}
@@ -15,7 +14,8 @@ use Rattle.text.proofs.Laws.{starts-same}
 use Rattle.text_pieces.specs.Pieces.{newlineAt, takenOf}
 use Rattle.text_answers.specs.Answers.{newline}
 use Rattle.trace_logs.specs.Logs.{linesOf}
-use Rattle.compare_lines.specs.Comparing.{Found, agrees, departs, endsEarly, leftOver, firstLine, afterLine, found, foundIn, OneLine, same, Judges, fourAt, eightAt}
+use Rattle.compare_lines.specs.Comparing.{departs, endsEarly, firstLine, afterLine, found, foundIn}
+use Rattle.compare_lines.specs.Judging.{OneLine, same, Judges, fourAt, eightAt}
 
 -- ---- words
 starts-on : (word more : List ℕ) → startsWith word (word ++ more) ≡ true

@@ -1,5 +1,5 @@
 -- What trace answers to a line is one line, and so is its header: no newline but the last. Assumes nothing.
-use mathlib.Core.Path.{_≡_, refl, ap, sym, _∙_}
+use mathlib.Core.Path.{_≡_, refl, ap, _∙_}
 use mathlib.Core.Bool.{Bool, true, false, cond}
 use mathlib.Core.List.{List, [], _∷_, _++_}
 use Prim.Native.Nat.{ℕ, zero, suc, _+_, _/_, _%_}
@@ -22,7 +22,7 @@ use Rattle.trace_lines.specs.declared.Line.the-variants.{Event, Unreadable, Dev
 use Rattle.trace_session.specs.Tracing.Session.{NoDevice, With}
 use Rattle.trace_session.specs.Tracing.{Session, traced}
 use Rattle.trace_logs.specs.Logs.{header}
-use Rattle.compare_lines.specs.Comparing.{OneLine}
+use Rattle.compare_lines.specs.Judging.{OneLine}
 use Rattle.compare_lines.proofs.Laws.{newline-after}
 
 abbrev Plain : List ℕ → Type 0

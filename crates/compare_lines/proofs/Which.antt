@@ -2,18 +2,18 @@
 use mathlib.Core.Path.{_≡_, refl, ap, sym, _∙_}
 use mathlib.Core.Bool.{Bool, true, false, cond}
 use mathlib.Core.List.{List, [], _∷_, _++_, append-assoc, append-nil}
-use Prim.Native.Nat.{ℕ, zero, suc, _+_, _-_, _<_, _≤_}
+use Prim.Native.Nat.{ℕ, suc, _+_, _-_, _<_, _≤_}
 use native.Mathlib.Omega.{arith}
 use borrow.Author.Tests.{lt-ltb}
 use lib.Dec.{eqb, ltb, leb·suc-suc}
-use lib.ListN.{length, getD, take, drop, length-drop, length-append}
+use lib.ListN.{length, take, drop, length-drop, length-append}
 use lib.Seq.{drop-drop}
 use Rattle.bits.proofs.Decide.{clash}
 use Rattle.text.specs.Text.{isWord}
 use Rattle.text_pieces.specs.Pieces.{newlineAt, takenOf}
-use Rattle.trace_logs.specs.Logs.{linesOf, lastLine, answersOf}
+use Rattle.trace_logs.specs.Logs.{linesOf, answersOf}
 use Rattle.trace_logs.proofs.Feeding.{taken-some}
-use Rattle.compare_lines.specs.Comparing.{Found, agrees, departs, endsEarly, leftOver, firstLine, afterLine, found, partFrom, compared}
+use Rattle.compare_lines.specs.Comparing.{Found, departs, firstLine, afterLine, found, compared}
 use Rattle.compare_lines.specs.Which.{Which}
 use Rattle.compare_lines.proofs.Laws.{word-itself, word-is}
 

@@ -3,7 +3,7 @@ ghost use mathlib.Core.Path.{_≡_};
 ghost use Prim.Native.Nat.{_+_, _^_, _<_, _≤_};
 ghost use lib.ListN.{length};
 ghost use Rattle.text.specs.Text.{startsWith};
-ghost use Rattle.compare_lines.specs.Comparing.{fourAt, eightAt, Judges};
+ghost use Rattle.compare_lines.specs.Judging.{fourAt, eightAt, Judges};
 
 // The verdicts, and that there is none yet.
 pub const AGREES: u8 = 0;

@@ -20,7 +20,8 @@ use Rattle.trace_logs.specs.Pieces.{Reading, Given, grown, ended, andThen, give
 use Rattle.trace_logs.proofs.Laws.{given-first}
 use Rattle.trace_logs.proofs.Whole.{then-then, given-append}
 use Rattle.trace_logs.proofs.Feeding.{taken-some}
-use Rattle.compare_lines.specs.Comparing.{agrees, leftOver, found, foundIn, OneLine, same, Judges}
+use Rattle.compare_lines.specs.Comparing.{agrees, leftOver, found, foundIn}
+use Rattle.compare_lines.specs.Judging.{OneLine, same, Judges}
 use Rattle.compare_lines.proofs.Plain.{answer-one}
 use Rattle.compare_logs.specs.Meeting.{goesOn, Seen, Unless, Meets, Settles}
 

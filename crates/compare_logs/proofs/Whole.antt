@@ -2,17 +2,18 @@
 use mathlib.Core.Path.{_≡_, refl, ap, sym, _∙_}
 use mathlib.Core.Bool.{true}
 use mathlib.Core.List.{List, [], _∷_, _++_, append-nil}
-use Prim.Native.Nat.{ℕ, suc, _+_, _-_, _<_, _≤_}
+use Prim.Native.Nat.{ℕ, _+_, _-_, _<_, _≤_}
 use native.Mathlib.Omega.{arith}
 use lib.ListN.{length, take, drop, length-drop}
 use lib.Seq.{drop-drop, drop-length}
 use Rattle.text.specs.Text.{Wrote}
 use Rattle.text_pieces.specs.Pieces.{newlineAt}
 use Rattle.trace_lines.proofs.Laws.{rest as tail}
-use Rattle.trace_logs.specs.Logs.{header, answersOf}
+use Rattle.trace_logs.specs.Logs.{header}
 use Rattle.trace_logs.specs.Pieces.{Reading, opened, given, toEnd}
 use Rattle.trace_logs.proofs.Whole.{one-piece}
-use Rattle.compare_lines.specs.Comparing.{Found, firstLine, foundIn, compared, partFrom, partTo, same, Judges}
+use Rattle.compare_lines.specs.Comparing.{Found, firstLine, foundIn, compared, partFrom}
+use Rattle.compare_lines.specs.Judging.{same, Judges}
 use Rattle.compare_lines.proofs.Plain.{header-one}
 use Rattle.compare_logs.specs.Meeting.{goesOn, Seen, Unless, Meets, Settles, FindsOn, LineAt, Finds, Ran}
 use Rattle.compare_logs.specs.Meeting.Ran.{Went, Decided, Settled}
@@ -70,36 +71,44 @@ finds events answers {verdict} {from} {to} v l h a =
       within = a .within;
     }
 
-module _ (events answers : List ℕ) {out left : List ℕ} {end : ℕ} (t : There header out left end) {verdict taken : ℕ} (j : Judges (take (end - 0) left) answers verdict taken) where
+header-short : length header ≤ 26
+unfolding header
+header-short = omega arith
+
+-- the header, judged by what is seen of the answers
+module _ (events answers more : List ℕ) {out left : List ℕ} {end : ℕ} (t : There header out left end) {verdict taken : ℕ} (j : Judges (take (end - 0) left) answers verdict taken) (seen : Seen answers more) where
   judged : Judges header answers verdict taken
   judged = rw (t .line) at j
 
+  seen-header : length answers ≤ length header → more ≡ []
+  seen-header h = seen (omega (arith, h, header-short))
+
+  header-agrees : verdict ≡ same → compared events (answers ++ more) ≡ goesOn 1 opened events (drop taken answers ++ more)
+  header-agrees e = compared-is events (answers ++ more) ∙ judged .goes-on e header-one 0 (toEnd (given opened events)) more seen-header
+
+  pub whole-header : (verdict ≡ same → ⊥) → compared events (answers ++ more) ≡ record { verdict = verdict; agreed = 0; left = answers ++ more }
+  whole-header h = compared-is events (answers ++ more) ∙ judged .decides h header-one 0 (toEnd (given opened events)) more seen-header
+
+-- by all of them
+module _ (events answers : List ℕ) {out left : List ℕ} {end : ℕ} (t : There header out left end) {verdict taken : ℕ} (j : Judges (take (end - 0) left) answers verdict taken) where
+  all : compared events answers ≡ compared events (answers ++ [])
+  all = ap (compared events) (sym (append-nil answers))
+
   pub finds-header : (verdict ≡ same → ⊥) → {to : ℕ} → LineAt answers 0 to → Finds events answers verdict 0 to
   finds-header h a =
-      let e : compared events answers ≡ record { verdict = verdict; agreed = 0; left = answers } =
-      compared-is events answers ∙ ap (foundIn 0 (header ++ toEnd (given opened events))) (sym (append-nil answers))
-      ∙ judged .decides h header-one 0 (toEnd (given opened events)) [] (λ u. refl) ∙ ap (λ (x : List ℕ). record { verdict = verdict; agreed = 0; left = x }) (append-nil answers) in
-      finds events answers (sym (ap (λ (f : Found). f .verdict) e)) (sym (ap (λ (f : Found). f .left) e)) (omega arith) a
-
-  -- the header agrees
-  after-header : verdict ≡ same → compared events answers ≡ goesOn 1 opened events (drop taken answers)
-  after-header e =
-      compared-is events answers ∙ ap (foundIn 0 (header ++ toEnd (given opened events))) (sym (append-nil answers))
-      ∙ judged .goes-on e header-one 0 (toEnd (given opened events)) [] (λ u. refl) ∙ ap (goesOn 1 opened events) (append-nil (drop taken answers))
+      let e : compared events answers ≡ record { verdict = verdict; agreed = 0; left = answers ++ [] } = all ∙ whole-header events answers [] t j (λ u. refl) h in
+      finds events answers (sym (ap (λ (f : Found). f .verdict) e)) (sym (ap (λ (f : Found). f .left) e ∙ append-nil answers)) (omega arith) a
 
   pub finds-rest : verdict ≡ same → {found from to : ℕ} → FindsOn events (take (length answers - taken) (drop taken answers)) found (drop from (take (length answers - taken) (drop taken answers))) → from ≤ length (take (length answers - taken) (drop taken answers))
       → LineAt answers (taken + from) to → Finds events answers found (taken + from) to
   finds-rest e {found} {from} {to} f h a =
       let g : FindsOn events (drop taken answers) found (drop from (drop taken answers)) = rw (tail taken answers) at f in
-      let c = after-header e in
+      let c : compared events answers ≡ goesOn 1 opened events (drop taken answers) =
+      all ∙ header-agrees events answers [] t j (λ u. refl) e ∙ ap (goesOn 1 opened events) (append-nil (drop taken answers)) in
       finds events answers (g .verdict-on 1 ∙ sym (ap (λ (x : Found). x .verdict) c)) (sym (drop-drop from taken answers) ∙ g .left-on 1 ∙ sym (ap (λ (x : Found). x .left) c))
-      (omega (arith, h, ap length (tail taken answers), length-drop taken answers, judged .within)) a
+      (omega (arith, h, ap length (tail taken answers), length-drop taken answers, j .within)) a
 
 -- the code's header
-header-short : length header ≤ 26
-unfolding header
-header-short = omega arith
-
 pub header-there : {out left : List ℕ} {end : ℕ} → Wrote out 0 header end left → length out ≡ 26 → There header out left end
 header-there w room = there w header-short (omega (arith, room))
 
@@ -138,17 +147,7 @@ in-pieces (Went {n} events later answers more m u later-calls) = m .goes-on refl
 in-pieces (Decided {n} events later answers more m u h) = m .decides h n later more u
 in-pieces (Settled {n} answers more s seen) = s .settles n more seen
 
--- and with the header, judged by what is seen of the answers
-module _ (events answers more : List ℕ) {out left : List ℕ} {end : ℕ} (t : There header out left end) {verdict taken : ℕ} (j : Judges (take (end - 0) left) answers verdict taken) (seen : Seen answers more) where
-  judged-seen : Judges header answers verdict taken
-  judged-seen = rw (t .line) at j
-
-  seen-header : length answers ≤ length header → more ≡ []
-  seen-header h = seen (omega (arith, h, header-short))
-
-  pub whole-pieces : verdict ≡ same → {f : Found} → Ran 1 opened events (drop taken answers ++ more) f → compared events (answers ++ more) ≡ f
-  whole-pieces e ran =
-      compared-is events (answers ++ more) ∙ judged-seen .goes-on e header-one 0 (toEnd (given opened events)) more seen-header ∙ in-pieces ran
-
-  pub whole-header : (verdict ≡ same → ⊥) → compared events (answers ++ more) ≡ record { verdict = verdict; agreed = 0; left = answers ++ more }
-  whole-header h = compared-is events (answers ++ more) ∙ judged-seen .decides h header-one 0 (toEnd (given opened events)) more seen-header
+-- and with the header
+pub whole-pieces : (events answers more : List ℕ) {out left : List ℕ} {end : ℕ} → There header out left end → {verdict taken : ℕ} → Judges (take (end - 0) left) answers verdict taken → Seen answers more
+    → verdict ≡ same → {f : Found} → Ran 1 opened events (drop taken answers ++ more) f → compared events (answers ++ more) ≡ f
+whole-pieces events answers more t j seen e ran = header-agrees events answers more t j seen e ∙ in-pieces ran

@@ -7,7 +7,8 @@ use lib.ListN.{length, drop}
 use Rattle.text_pieces.specs.Pieces.{newlineAt}
 use Rattle.trace_session.specs.Tracing.{Kept, Beside}
 use Rattle.trace_logs.specs.Pieces.{Reading, given, toEnd, opened}
-use Rattle.compare_lines.specs.Comparing.{Found, foundIn, same, compared, partFrom, partTo}
+use Rattle.compare_lines.specs.Comparing.{Found, foundIn, compared, partFrom, partTo}
+use Rattle.compare_lines.specs.Judging.{same}
 
 -- what is found from here on, where these events and these answers are left
 abbrev pub goesOn : (agreed : ℕ) → Reading → (events answers : List ℕ) → Found

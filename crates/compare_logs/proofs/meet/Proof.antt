@@ -6,7 +6,7 @@ use Prim.Native.Nat.{_-_, _≤_}
 use lib.ListN.{length}
 use Rattle.bits.proofs.Decide.{clash}
 use Rattle.trace_logs.specs.Pieces.{readingOf}
-use Rattle.compare_lines.specs.Comparing.{same}
+use Rattle.compare_lines.specs.Judging.{same}
 use Rattle.compare_logs.specs.Meeting.{Unless, Meets, Holding}
 use Rattle.compare_logs.proofs.Laws.{meets-start, meets-then, meets-on, rest-some}
 use Rattle.compare_logs.proofs.meet.Statement.{statement}
