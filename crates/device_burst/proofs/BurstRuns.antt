@@ -19,8 +19,9 @@ use Rattle.device_demands.specs.Run.{Asked, after, answers}
 use Rattle.device_demands.proofs.Lawful.{Lawful}
 use Rattle.device_demands.proofs.Keeps.{WellFormed, image-of, stepped-keeps, power-on-fits}
 use Rattle.device_demands.proofs.Runs.{image-kept}
-use Rattle.words_burst.specs.Burst.{Sent, sent, halved, wholeOf, one, Ran, ended, onto, twoOf, afterOne, ran}
-use Rattle.words_burst.proofs.Doing.{or-true}
+use Rattle.words_events.specs.Events.{Sent, sent, halved, wholeOf, one}
+use Rattle.words_burst.specs.Burst.{Ran, ended, onto, twoOf, afterOne, ran}
+use Rattle.words_events.proofs.Doing.{or-true}
 use Rattle.device_burst.specs.BurstRuns.{asSent, sentAs, untilRefused, twosOf, RunsAs}
 
 -- ---- step by step

@@ -11,7 +11,8 @@ use lib.ListN.{length}
 use Rattle.bits.proofs.Decide.{clash}
 use Rattle.map.specs.Map.{partOf}
 use Rattle.words_state.specs.Packed.{stateIn, Packed}
-use Rattle.words_burst.specs.Burst.{sentOf, ran, eight, Left, Bursts}
+use Rattle.words_events.specs.Events.{sentOf, eight}
+use Rattle.words_burst.specs.Burst.{ran, Left, Bursts}
 
 or-left : (a b : Bool) → (a || b) ≡ false → a ≡ false
 or-left true b h = h

@@ -15,7 +15,8 @@ use Rattle.device_rules.specs.Device.Event.{Start, Stop, HardwareReset, ByteSen
 use Rattle.device_rules.specs.Refusals.{imageFits, eventOf, refusal, stepped}
 use Rattle.device_rules.specs.Answers.{answerKind, refusalNumber}
 use Rattle.device_rules.specs.declared.Answer.the-variants.{Refused}
-use Rattle.words_burst.specs.Burst.{Sent, wordAt, eventAt, sentOf, halved, wholeOf, one, Ran, ended, onto, twoOf, ran}
+use Rattle.words_events.specs.Events.{Sent, wordAt, eventAt, sentOf, halved, wholeOf, one}
+use Rattle.words_burst.specs.Burst.{Ran, ended, onto, twoOf, ran}
 use Rattle.words_burst.specs.Cuts.{andThen, ranAll, allOf}
 use Rattle.words_burst.proofs.Running.{onto-onto, onto-none}
 

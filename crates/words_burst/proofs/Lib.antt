@@ -1,4 +1,3 @@
 pub mod Calling
 pub mod Cuts
-pub mod Doing
 pub mod Running

@@ -18,8 +18,9 @@ use Rattle.device_rules.proofs.Answer.{the-type}
 use Rattle.device_rules.specs.declared.Answer.{Answer}
 use Rattle.device_rules.specs.declared.Answer.the-variants.{Nothing, Ack, Nak, Byte, Refused}
 use Rattle.words_state.specs.Packed.{stateIn, Packed, Leaves}
-use Rattle.words_burst.specs.Burst.{Sent, eventAt, sentOf, one, Ran, ended, onto, twoOf, afterOne, ran, Left}
-use Rattle.words_burst.proofs.Doing.{refused-same}
+use Rattle.words_events.specs.Events.{Sent, eventAt, sentOf, one}
+use Rattle.words_burst.specs.Burst.{Ran, ended, onto, twoOf, afterOne, ran, Left}
+use Rattle.words_events.proofs.Doing.{sent-first, refused-same}
 
 -- an answer of one of the first four kinds is no refusal
 no-refusal : (a : Answer) → OneOf (0 ∷ 1 ∷ 2 ∷ 3 ∷ []) (tagOf the-type a) → eqb (answerKind a) 4 ≡ false
@@ -103,13 +104,6 @@ module _ (c : ℕ) (w₀ bytes : List ℕ) (asked : ℕ) (answers₀ : List ℕ)
       all = omega arith
 
   module _ (enough : 2 * asked ≤ length answers₀) (w answers : List ℕ) (i : ℕ) (d : Running w answers i) where
-    first : i < asked → sentOf bytes i (asked - i) ≡ eventAt bytes i ∷ sentOf bytes (i + 1) (asked - (i + 1))
-    unfolding sentOf
-    first h = rw (add-one i) (ap (sentOf bytes i) one-more)
-      where
-        one-more : asked - i ≡ suc (asked - suc i)
-        one-more = omega arith
-
     pub turn : i < asked → {w' : List ℕ} {a : Answer} → Leaves c w' a (one (partOf c) (stateIn (partOf c) w) (eventAt bytes i)) → eqb (answerKind a) 4 ≡ false
         → Running w' (set (set answers (2 * i) (answerKind a)) (2 * i + 1) (answerByte a)) (i + 1)
     turn h {w'} {a} l k = record {
@@ -118,7 +112,7 @@ module _ (c : ℕ) (w₀ bytes : List ℕ) (asked : ℕ) (answers₀ : List ℕ)
       room = simp length-set (d .room);
       past = rw two (two-past answers (2 * i) (answerKind a) (answerByte a) fits ∙ drop-more (2 * i) answers answers₀ (d .past));
       rest = d .rest
-          ∙ ap (λ (es : List Sent). onto i (take (2 * i) answers) (ran (partOf c) (stateIn (partOf c) w) es)) (first h)
+          ∙ ap (λ (es : List Sent). onto i (take (2 * i) answers) (ran (partOf c) (stateIn (partOf c) w) es)) (sent-first bytes i asked h)
           ∙ ap (onto i (take (2 * i) answers)) (ran-on (partOf c) (stateIn (partOf c) w) (eventAt bytes i) later (l .outcome) k)
           ∙ onto-onto i 1 (take (2 * i) answers) (twoOf a) (ran (partOf c) (stateIn (partOf c) w') later)
           ∙ ap (λ (t : List ℕ). onto (i + 1) t (ran (partOf c) (stateIn (partOf c) w') later))
@@ -164,7 +158,7 @@ module _ (c : ℕ) (w₀ bytes : List ℕ) (asked : ℕ) (answers₀ : List ℕ)
     stop h {w'} {a} {n} e left =
         let l : Leaves c w' (Refused n) (one (partOf c) (stateIn (partOf c) w) (eventAt bytes i)) =
         subst (λ (a : Answer). Leaves c w' a (one (partOf c) (stateIn (partOf c) w) (eventAt bytes i))) e left in
-        ends (ap (ran (partOf c) (stateIn (partOf c) w)) (first h) ∙ ran-stop (partOf c) (stateIn (partOf c) w) (eventAt bytes i) (sentOf bytes (i + 1) (asked - (i + 1))) (l .outcome))
+        ends (ap (ran (partOf c) (stateIn (partOf c) w)) (sent-first bytes i asked h) ∙ ran-stop (partOf c) (stateIn (partOf c) w) (eventAt bytes i) (sentOf bytes (i + 1) (asked - (i + 1))) (l .outcome))
         (l .packed) (refused-same c w (d .packed) (eventAt bytes i) l)
 
     -- none was

@@ -4,7 +4,8 @@ use mathlib.Core.List.{List, [], _∷_, _++_}
 use lib.Dec.{eqb}
 use Rattle.map.specs.Map.{Part}
 use Rattle.device_rules.specs.Device.{State}
-use Rattle.words_burst.specs.Burst.{Sent, Ran, ended, onto, ran}
+use Rattle.words_events.specs.Events.{Sent}
+use Rattle.words_burst.specs.Burst.{Ran, ended, onto, ran}
 
 -- what was done, and then more from where it left; refused, nothing more
 abbrev pub andThen : Ran → (State → Ran) → Ran

@@ -5,8 +5,8 @@ use Prim.Native.Nat.{ℕ, _+_, _*_}
 use native.Mathlib.Omega.{arith}
 use lib.ListN.{set, length-set}
 use Rattle.words_state.proofs.Told.{kind-told}
-use Rattle.words_burst.proofs.put.Statement.{statement}
-use Rattle.words_burst.proofs.put.Tie as tie
+use Rattle.words_events.proofs.put.Statement.{statement}
+use Rattle.words_events.proofs.put.Tie as tie
 
 slice-write-answers-2 : tie.Need-slice-write-answers-2
 slice-write-answers-2 c = simp length-set (omega arith)

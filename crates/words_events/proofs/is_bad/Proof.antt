@@ -2,8 +2,8 @@
 use borrow.Author.Needs.{needs}
 use Prim.Native.Nat.{_<_, _≤_}
 use borrow.Author.Tests.{eq-eqb, ne-eqb, lt-ltb, le-ltb}
-use Rattle.words_burst.proofs.is_bad.Statement.{statement}
-use Rattle.words_burst.proofs.is_bad.Tie as tie
+use Rattle.words_events.proofs.is_bad.Statement.{statement}
+use Rattle.words_events.proofs.is_bad.Tie as tie
 
 returns : tie.Need-returns
 returns c = rw (ne-eqb _ _ (c .if1 .taken))

@@ -1,8 +1,9 @@
 -- One event with its third word, on words. Assumes nothing.
 use mathlib.Core.Path.{_≡_, refl, sym, ap, ap₂, _∙_}
 use mathlib.Core.Bool.{Bool, true, false, cond, _||_}
-use mathlib.Core.List.{List}
-use Prim.Native.Nat.{ℕ, zero, suc, _-_, _^_, _≤_, _<_}
+use mathlib.Core.List.{List, _∷_}
+use Prim.Native.Nat.{ℕ, zero, suc, _+_, _-_, _^_, _≤_, _<_}
+use native.Mathlib.Numerals.{add-one}
 use native.Mathlib.Omega.{arith}
 use borrow.Author.Tests.{eq-eqb, ne-eqb, lt-ltb, le-ltb}
 use lib.Dec.{eqb, ltb, leb}
@@ -15,7 +16,15 @@ use Rattle.device_rules.specs.declared.Answer.the-variants.{Refused}
 use Rattle.words_state.specs.Packed.{stateIn, Packed, Leaves}
 use Rattle.words_state.proofs.Judging.{image-fits, image}
 use Rattle.words_state.proofs.Left.{left-same, by-rule}
-use Rattle.words_burst.specs.Burst.{Sent, halved, wholeOf, one}
+use Rattle.words_events.specs.Events.{Sent, eventAt, sentOf, halved, wholeOf, one}
+
+-- the events from number i on: the first, and those from the next on
+pub sent-first : (bytes : List ℕ) (i asked : ℕ) → i < asked → sentOf bytes i (asked - i) ≡ eventAt bytes i ∷ sentOf bytes (i + 1) (asked - (i + 1))
+unfolding sentOf
+sent-first bytes i asked h = rw (add-one i) (ap (sentOf bytes i) one-more)
+  where
+    one-more : asked - i ≡ suc (asked - suc i)
+    one-more = omega arith
 
 -- pins past the lower half of an argument are those of a part that takes the upper half
 by-pins : (c pins : ℕ) → pins ≡ 2 ^ partOf c .width - 1 → ltb 0xffff_ffff pins ≡ halved (partOf c)
