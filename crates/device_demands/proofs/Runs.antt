@@ -6,16 +6,16 @@ use Prim.Native.Nat.{ℕ, zero, suc, _+_, _%_, _^_, _<_}
 use native.Mathlib.Omega.{arith}
 use borrow.Author.Tests.{lt-ltb}
 use lib.Dec.{eqb, ltb, leb}
-use Rattle.bits.proofs.Decide.{either-arm}
+use Rattle.bits.proofs.Decide.{clash, either-arm}
 use Rattle.map.specs.Map.{Part, partOf, reserved}
 use Rattle.registers.specs.Registers.{drivenLow, drivenHigh, intAsserted}
 use Rattle.device_rules.specs.Device.{State, Event, Bus, Outcome, busAt, out, addressByte, ours, addressed, byteIn, fetchIn, step}
 use Rattle.device_rules.specs.Refusals.{imageFits, argumentFits, refusal, stepped, eventOf}
 use Rattle.device_rules.specs.Device.Bus.{Idle, Opened, Chosen, Filling, Sending, Call, Armed, Deaf, Asking, Named, Reopened, Telling}
 use Rattle.device_rules.specs.Device.Event.{Start, Stop, HardwareReset, ByteSent, ByteFetched, Levels}
-use Rattle.device_rules.specs.Answers.{refusalNumber}
+use Rattle.device_rules.specs.Answers.{answerKind, refusalNumber}
 use Rattle.device_rules.specs.declared.Answer.{Answer}
-use Rattle.device_rules.specs.declared.Answer.the-variants.{Nothing, Refused}
+use Rattle.device_rules.specs.declared.Answer.the-variants.{Nothing, Ack, Nak, Byte, Refused}
 use Rattle.device_rules.specs.PowerOn.{powerOn}
 use Rattle.device.specs.Held.{stateIn, fitsIn, Makes}
 use Rattle.device.proofs.Asking.{ruled}
@@ -27,7 +27,7 @@ use Rattle.device_demands.proofs.Keeps.{WellFormed, image-of, stepped-k
 
 -- ---- a step answers, and does not refuse
 abbrev Answers : Outcome → Type 0
-Answers o = refusalNumber (o .answer) ≡ 0
+Answers o = eqb (answerKind (o .answer)) 4 ≡ false
 
 address-answers : (s : State) (b : ℕ) → Answers (addressed s b)
 address-answers s b =
@@ -64,14 +64,24 @@ fetch-answers p Named s acknowledged = refl
 fetch-answers p Reopened s acknowledged = refl
 fetch-answers p Telling s acknowledged = refl
 
-pub step-answers : (p : Part) (s : State) (e : Event) → Answers (step p s e)
+pub step-taken : (p : Part) (s : State) (e : Event) → Answers (step p s e)
 unfolding step
-step-answers p s Start = refl
-step-answers p s Stop = refl
-step-answers p s HardwareReset = refl
-step-answers p s (ByteSent b) = byte-answers p (busAt (s .bus)) s b
-step-answers p s (ByteFetched acknowledged) = fetch-answers p (busAt (s .bus)) s acknowledged
-step-answers p s (Levels new) = refl
+step-taken p s Start = refl
+step-taken p s Stop = refl
+step-taken p s HardwareReset = refl
+step-taken p s (ByteSent b) = byte-answers p (busAt (s .bus)) s b
+step-taken p s (ByteFetched acknowledged) = fetch-answers p (busAt (s .bus)) s acknowledged
+step-taken p s (Levels new) = refl
+
+no-number : (a : Answer) → eqb (answerKind a) 4 ≡ false → refusalNumber a ≡ 0
+no-number Nothing e = refl
+no-number Ack e = refl
+no-number Nak e = refl
+no-number (Byte b) e = refl
+no-number (Refused n) e = clash true refl e
+
+pub step-answers : (p : Part) (s : State) (e : Event) → refusalNumber (step p s e .answer) ≡ 0
+step-answers p s e = no-number (step p s e .answer) (step-taken p s e)
 
 -- ---- with an image that fits, a refusal is 1 or 2
 pub image-kept : (p : Part) (s : State) → WellFormed p s → (kind arg : ℕ) → eqb (refusalNumber (stepped p s kind arg .answer)) 3 ≡ false

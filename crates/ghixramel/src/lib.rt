@@ -10,6 +10,9 @@ ghost use Rattle.planner_promise.specs.Answer.{answerOf, Answers};
 ghost use Rattle.planner_promise.specs.Promise.{Promise};
 ghost use Rattle.host_words.specs.Host.{Told, Made, Seen, Shown, drivesOf, intOf, imageIn, FromImage, ToImage, plannedAs, countIn};
 ghost use Rattle.words_burst.specs.Burst.{Bursts};
+ghost use Rattle.loss_marks.specs.Lent.{MakesMarks, Signs};
+ghost use Rattle.loss_burst.specs.MarkedBurst.{MarkedBursts};
+ghost use Rattle.loss_host.specs.MarkedHost.{MarkedTold};
 ghost use Rattle.text_pieces.specs.Pieces.{newlineAt};
 ghost use Rattle.compare_lines.specs.Comparing.{compared, partFrom};
 use device_rules::LAST_ID;
@@ -264,6 +267,52 @@ pub extern "C" fn ghixramel_burst(
     words_burst::burst(words, PCAL6524, events, asked, answers, done)
 }
 
+// Loss marks anew, all of them set, each pin with its healthy level.
+#[no_mangle]
+pub extern "C" fn ghixramel_marks_new(marks: &mut [u64; 2], healthy: u64) -> u32
+    ensures { λ r. ⌜ MakesMarks 0 healthy r (now (marks .entry)) (now (marks .exit)) ⌝ }
+{
+    loss_marks::make(marks, PCAL6524, healthy)
+}
+
+// One event, and what it sets is marked.
+#[no_mangle]
+pub extern "C" fn ghixramel_marked_step(
+    words: &mut [u64; 28],
+    marks: &mut [u64; 2],
+    kind: u32,
+    argument: u64,
+    answer: &mut [u8; 2],
+) -> u32
+    ensures { λ r. ⌜ MarkedTold 0 (now (words .entry)) (now (marks .entry)) kind argument r (now (words .exit)) (now (marks .exit)) (now (answer .entry)) (now (answer .exit)) ⌝ }
+{
+    loss_host::step(words, marks, PCAL6524, kind, argument, answer)
+}
+
+// Many events, and what they set is marked.
+#[no_mangle]
+pub extern "C" fn ghixramel_marked_burst(
+    words: &mut [u64; 28],
+    marks: &mut [u64; 2],
+    events: &[u8],
+    asked: u64,
+    answers: &mut [u8],
+    done: &mut [u64; 1],
+) -> u32
+    ensures { λ r. ⌜ MarkedBursts 0 (now (words .entry)) (now (marks .entry)) (now (events .entry)) asked r (now (words .exit)) (now (marks .exit))
+        (now (answers .entry)) (now (answers .exit)) (now (done .entry)) (now (done .exit)) ⌝ }
+{
+    loss_burst::burst(words, marks, PCAL6524, events, asked, answers, done)
+}
+
+// A pin that is quiet and healthy is signed off: its mark is cleared.
+#[no_mangle]
+pub extern "C" fn ghixramel_sign_off(words: &[u64; 28], marks: &mut [u64; 2], pin: u32) -> u32
+    ensures { λ r. ⌜ Signs 0 (now (words .entry)) (now (marks .entry)) (now (marks .exit)) pin r ⌝ }
+{
+    loss_marks::sign_off(words, marks, PCAL6524, pin)
+}
+
 // The plan from the start to the goal, at the start of the buffer.
 #[no_mangle]
 pub extern "C" fn ghixramel_plan(
@@ -382,6 +431,48 @@ pub extern "C" fn ghixramel34_burst(
         (now (done .entry)) (now (done .exit)) ⌝ }
 {
     words_burst::burst(words, PCAL6534, events, asked, answers, done)
+}
+
+#[no_mangle]
+pub extern "C" fn ghixramel34_marks_new(marks: &mut [u64; 2], healthy: u64) -> u32
+    ensures { λ r. ⌜ MakesMarks 1 healthy r (now (marks .entry)) (now (marks .exit)) ⌝ }
+{
+    loss_marks::make(marks, PCAL6534, healthy)
+}
+
+#[no_mangle]
+pub extern "C" fn ghixramel34_marked_step(
+    words: &mut [u64; 28],
+    marks: &mut [u64; 2],
+    kind: u32,
+    argument: u64,
+    answer: &mut [u8; 2],
+) -> u32
+    ensures { λ r. ⌜ MarkedTold 1 (now (words .entry)) (now (marks .entry)) kind argument r (now (words .exit)) (now (marks .exit)) (now (answer .entry)) (now (answer .exit)) ⌝ }
+{
+    loss_host::step(words, marks, PCAL6534, kind, argument, answer)
+}
+
+#[no_mangle]
+pub extern "C" fn ghixramel34_marked_burst(
+    words: &mut [u64; 28],
+    marks: &mut [u64; 2],
+    events: &[u8],
+    asked: u64,
+    answers: &mut [u8],
+    done: &mut [u64; 1],
+) -> u32
+    ensures { λ r. ⌜ MarkedBursts 1 (now (words .entry)) (now (marks .entry)) (now (events .entry)) asked r (now (words .exit)) (now (marks .exit))
+        (now (answers .entry)) (now (answers .exit)) (now (done .entry)) (now (done .exit)) ⌝ }
+{
+    loss_burst::burst(words, marks, PCAL6534, events, asked, answers, done)
+}
+
+#[no_mangle]
+pub extern "C" fn ghixramel34_sign_off(words: &[u64; 28], marks: &mut [u64; 2], pin: u32) -> u32
+    ensures { λ r. ⌜ Signs 1 (now (words .entry)) (now (marks .entry)) (now (marks .exit)) pin r ⌝ }
+{
+    loss_marks::sign_off(words, marks, PCAL6534, pin)
 }
 
 // The plan from the start to the goal, at the start of the buffer.

@@ -29,17 +29,19 @@ use Rattle.words_images.specs.Images.{Packs}
 use Rattle.host_words.specs.Host.{toldAs, Told, Made, Seen, Shown, FromImage, ToImage, writesAfter, plannedAs, countIn}
 
 -- ---- one event
+-- a number that is not 0 is told of a refusal alone
+pub only-refused : {S : Type 0} (number : ℕ) (a : Answer) → number ≡ refusalNumber a → eqb number 0 ≡ false → ((m : ℕ) → a ≡ Refused m → S) → S
+only-refused number Nothing n h then = clash (eqb number 0) (ap (λ (k : ℕ). eqb k 0) n) h
+only-refused number Ack n h then = clash (eqb number 0) (ap (λ (k : ℕ). eqb k 0) n) h
+only-refused number Nak n h then = clash (eqb number 0) (ap (λ (k : ℕ). eqb k 0) n) h
+only-refused number (Byte b) n h then = clash (eqb number 0) (ap (λ (k : ℕ). eqb k 0) n) h
+only-refused number (Refused m) n h then = then m refl
+
+-- and leaves what was lent for the answer
+pub left-told : {told' : List ℕ} (a : Answer) (told : List ℕ) (m : ℕ) → a ≡ Refused m → told' ≡ toldAs a told → told' ≡ told
+left-told a told m e t = t ∙ ap (λ (a : Answer). toldAs a told) e
+
 module _ (c : ℕ) (w w' told told' : List ℕ) (kind arg number : ℕ) where
-  abbrev Same : Type 0
-  Same = (w' ≡ w) × (told' ≡ told)
-
-  unchanged : (a : Answer) → Steps c w w' kind arg a → number ≡ refusalNumber a → told' ≡ toldAs a told → eqb number 0 ≡ false → Same
-  unchanged Nothing s n t h = clash (eqb number 0) (ap (λ (k : ℕ). eqb k 0) n) h
-  unchanged Ack s n t h = clash (eqb number 0) (ap (λ (k : ℕ). eqb k 0) n) h
-  unchanged Nak s n t h = clash (eqb number 0) (ap (λ (k : ℕ). eqb k 0) n) h
-  unchanged (Byte b) s n t h = clash (eqb number 0) (ap (λ (k : ℕ). eqb k 0) n) h
-  unchanged (Refused m) s n t h = (s .refused m refl, t)
-
   -- a step on words, told in numbers
   pub told-of : (a : Answer) → Steps c w w' kind arg a → number ≡ refusalNumber a → told' ≡ toldAs a told → Told c w kind arg number w' told told'
   told-of a s n t = record {
@@ -52,7 +54,7 @@ module _ (c : ℕ) (w w' told told' : List ℕ) (kind arg number : ℕ) where
           answer = t ∙ ap (λ (o : Outcome). toldAs (o .answer) told) (l .outcome);
         };
     broken = λ z. n ∙ ap refusalNumber (s .broken z);
-    unchanged = unchanged a s n t;
+    unchanged = λ h. only-refused number a n h (λ m e. (s .refused m e, left-told a told m e t));
   }
 
 -- ---- a device that is made, or not
