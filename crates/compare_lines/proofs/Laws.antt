@@ -13,7 +13,7 @@ use Rattle.text.specs.Text.{startsWith, isWord}
 use Rattle.text.proofs.Laws.{starts-same}
 use Rattle.text_pieces.specs.Pieces.{newlineAt, takenOf}
 use Rattle.text_answers.specs.Answers.{newline}
-use Rattle.trace_logs.specs.Logs.{linesOf}
+use Rattle.text_logs.specs.Lines.{linesOf}
 use Rattle.compare_lines.specs.Comparing.{departs, endsEarly, firstLine, afterLine, found, foundIn}
 use Rattle.compare_lines.specs.Judging.{OneLine, same, Judges, fourAt, eightAt}
 

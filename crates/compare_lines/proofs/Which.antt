@@ -11,8 +11,9 @@ use lib.Seq.{drop-drop}
 use Rattle.bits.proofs.Decide.{clash}
 use Rattle.text.specs.Text.{isWord}
 use Rattle.text_pieces.specs.Pieces.{newlineAt, takenOf}
-use Rattle.trace_logs.specs.Logs.{linesOf, answersOf}
-use Rattle.trace_logs.proofs.Feeding.{taken-some}
+use Rattle.text_logs.specs.Lines.{linesOf}
+use Rattle.trace_logs.specs.Logs.{answersOf}
+use Rattle.text_logs.proofs.Feeding.{taken-some}
 use Rattle.compare_lines.specs.Comparing.{Found, departs, firstLine, afterLine, found, compared}
 use Rattle.compare_lines.specs.Which.{Which}
 use Rattle.compare_lines.proofs.Laws.{word-itself, word-is}

@@ -5,7 +5,8 @@ use Prim.Native.Nat.{ℕ, suc, _+_, _-_}
 use lib.ListN.{length, take, drop}
 use Rattle.text.specs.Text.{isWord}
 use Rattle.text_pieces.specs.Pieces.{newlineAt, takenOf}
-use Rattle.trace_logs.specs.Logs.{linesOf, answersOf}
+use Rattle.text_logs.specs.Lines.{linesOf}
+use Rattle.trace_logs.specs.Logs.{answersOf}
 
 -- ---- the four verdicts
 abbrev pub agrees : ℕ

@@ -3,7 +3,7 @@ use mathlib.Core.Path.{_≡_}
 use mathlib.Core.List.{List, [], _++_}
 use Prim.Native.Nat.{ℕ, _<_, _≤_}
 use lib.ListN.{length, getD, take, drop}
-use Rattle.trace_logs.specs.Logs.{linesOf}
+use Rattle.text_logs.specs.Lines.{linesOf}
 use Rattle.compare_lines.specs.Comparing.{Found, agrees, departs, endsEarly, leftOver, firstLine, partFrom}
 
 -- The answers are so many of the expected lines, and then the lines of what is left, which is a part of the answers.

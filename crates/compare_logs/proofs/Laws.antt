@@ -12,14 +12,15 @@ use Rattle.text.specs.Text.{Wrote}
 use Rattle.text.proofs.Laws.{wrote-length}
 use Rattle.text_pieces.specs.Pieces.{newlineAt, takenOf}
 use Rattle.trace_lines.specs.Lines.{lineOf}
-use Rattle.trace_lines.proofs.Laws.{rest as tail}
-use Rattle.trace_session.specs.Tracing.{partIn}
+use Rattle.text.proofs.Laws.{rest as tail}
+use Rattle.trace_session.specs.Tracing.{partIn, answerTo}
 use Rattle.trace_session.proofs.Laws.{traced-short}
-use Rattle.trace_logs.specs.Logs.{linesOf}
-use Rattle.trace_logs.specs.Pieces.{Reading, Given, grown, ended, andThen, given, firstGiven, Gives, atEnd, lastText, toEnd, Ends}
-use Rattle.trace_logs.proofs.Laws.{given-first}
-use Rattle.trace_logs.proofs.Whole.{then-then, given-append}
-use Rattle.trace_logs.proofs.Feeding.{taken-some}
+use Rattle.text_logs.specs.Lines.{linesOf}
+use Rattle.text_logs.specs.Pieces.{grown, andThen, given as given-by, firstGiven as first-by, atEnd as end-by}
+use Rattle.text_logs.proofs.Laws.{given-first}
+use Rattle.text_logs.proofs.Whole.{then-then, given-append}
+use Rattle.text_logs.proofs.Feeding.{taken-some}
+use Rattle.trace_logs.specs.Pieces.{Reading, Given, ended, given, firstGiven, Gives, lastText, toEnd, Ends}
 use Rattle.compare_lines.specs.Comparing.{agrees, leftOver, found, foundIn}
 use Rattle.compare_lines.specs.Judging.{OneLine, same, Judges}
 use Rattle.compare_lines.proofs.Plain.{answer-one}
@@ -51,7 +52,7 @@ nothing (b ∷ s) e = absurd (omega arith)
 
 -- what the first line of a piece expects is one line, or nothing
 first-short : (r : Reading) (events : List ℕ) → length (firstGiven r events .text) ≤ 26
-unfolding firstGiven
+unfolding first-by
 first-short r events = go (ltb (newlineAt events) (length events))
   where
     line : Reading
@@ -62,7 +63,7 @@ first-short r events = go (ltb (newlineAt events) (length events))
     go false = omega arith
 
 first-one : (r : Reading) (events : List ℕ) → (length (firstGiven r events .text) ≡ 0 → ⊥) → OneLine (firstGiven r events .text)
-unfolding firstGiven
+unfolding first-by
 first-one r events = go (ltb (newlineAt events) (length events))
   where
     line : Reading
@@ -75,7 +76,7 @@ first-one r events = go (ltb (newlineAt events) (length events))
 -- where the code put it
 pub first-there : (r : Reading) (events : List ℕ) {words₀ out left words held : List ℕ} {end len : ℕ} → Gives (firstGiven r events) words₀ out 0 end left words held len → 26 ≤ length out
     → There (firstGiven r events .text) out left end
-first-there r events g room = there (g .wrote) (first-short r events) room
+first-there r events g room = there (g .gives .wrote) (first-short r events) room
 
 module _ (r : Reading) (events : List ℕ) (small : length (r .begun) ≤ 33) where
   -- what it expects comes first, whatever follows the piece
@@ -85,8 +86,8 @@ module _ (r : Reading) (events : List ℕ) (small : length (r .begun) ≤ 33) wh
       let rest : List ℕ = drop (takenOf events) events in
       let g : Given = given (first .after) rest in
       let all : given r (events ++ later) ≡ andThen (first .text) (given (first .after) (rest ++ later)) =
-      given-append r events later ∙ ap (λ (x : Given). andThen (x .text) (given (x .after) later)) (given-first r events small)
-      ∙ sym (then-then (first .text) (g .text) (given (g .after) later)) ∙ ap (andThen (first .text)) (sym (given-append (first .after) rest later)) in
+      given-append answerTo r events later ∙ ap (λ (x : Given). andThen (x .text) (given (x .after) later)) (given-first answerTo r events small)
+      ∙ sym (then-then answerTo (first .text) (g .text) (given (g .after) later)) ∙ ap (andThen (first .text)) (sym (given-append answerTo (first .after) rest later)) in
       ap toEnd all
       ∙ append-assoc (first .text) (given (first .after) (rest ++ later) .text) (lastText (given (first .after) (rest ++ later) .after))
 
@@ -201,7 +202,7 @@ rest-some s at h = omega (arith, ap length (tail at s), length-drop at s)
 
 -- ---- the end of the events
 last-short : (r : Reading) → length (lastText r) ≤ 26
-unfolding atEnd
+unfolding end-by
 last-short r = go (eqb (length (r .begun)) 0)
   where
     go : (t : Bool) → length (cond t (record { text = []; after = r }) (ended r) .text) ≤ 26
@@ -209,7 +210,7 @@ last-short r = go (eqb (length (r .begun)) 0)
     go false = traced-short (r .session) (lineOf (partIn (r .session)) (r .begun))
 
 last-one : (r : Reading) → (length (lastText r) ≡ 0 → ⊥) → OneLine (lastText r)
-unfolding atEnd
+unfolding end-by
 last-one r = go (eqb (length (r .begun)) 0)
   where
     go : (t : Bool) → (length (cond t (record { text = []; after = r }) (ended r) .text) ≡ 0 → ⊥) → OneLine (cond t (record { text = []; after = r }) (ended r) .text)
@@ -217,7 +218,7 @@ last-one r = go (eqb (length (r .begun)) 0)
     go false some = answer-one (r .session) (lineOf (partIn (r .session)) (r .begun))
 
 pub last-there : (r : Reading) {words₀ out left words : List ℕ} {end : ℕ} → Ends r words₀ out 0 end left words → 26 ≤ length out → There (lastText r) out left end
-last-there r e room = there (e .wrote) (last-short r) room
+last-there r e room = there (e .ends .wrote) (last-short r) room
 
 -- no line is expected any more
 found-rest : (n : ℕ) (rest : List ℕ) (verdict : ℕ) → (length rest ≡ 0 → verdict ≡ agrees) → (0 < length rest → verdict ≡ leftOver) → foundIn n [] rest ≡ record { verdict = verdict; agreed = n; left = rest }
@@ -242,7 +243,7 @@ module _ (r : Reading) (answers : List ℕ) where
           some (omega (arith, s, ap length z, length-append (drop taken answers) more, length-drop taken answers))
 
   pub settles-none : {verdict : ℕ} → length (lastText r) ≡ 0 → (length answers ≡ 0 → verdict ≡ agrees) → (0 < length answers → verdict ≡ leftOver) → Settles r answers verdict 0 0
-  unfolding given
+  unfolding given-by
   settles-none {verdict} empty none some = record {
     within = omega arith;
     settles = λ n more seen. (
@@ -263,7 +264,7 @@ module _ (r : Reading) (answers : List ℕ) where
     last-expects n rest = ap (λ (x : List ℕ). foundIn n x rest) (sym (t .line) ∙ sym (append-nil (take (end - 0) left)))
 
     pub settles-line : judged ≡ same → {verdict : ℕ} → (length answers - taken ≡ 0 → verdict ≡ agrees) → (0 < length answers - taken → verdict ≡ leftOver) → Settles r answers verdict 1 taken
-    unfolding given
+    unfolding given-by
     settles-line e {verdict} none some = record {
       within = j .within;
       settles = λ n more seen. (
@@ -274,7 +275,7 @@ module _ (r : Reading) (answers : List ℕ) where
     }
 
     pub settles-verdict : (judged ≡ same → ⊥) → Settles r answers judged 0 0
-    unfolding given
+    unfolding given-by
     settles-verdict h = record {
       within = omega arith;
       settles = λ n more seen. (

@@ -8,7 +8,7 @@ use lib.ListN.{length, take, drop, length-drop}
 use lib.Seq.{drop-drop, drop-length}
 use Rattle.text.specs.Text.{Wrote}
 use Rattle.text_pieces.specs.Pieces.{newlineAt}
-use Rattle.trace_lines.proofs.Laws.{rest as tail}
+use Rattle.text.proofs.Laws.{rest as tail}
 use Rattle.trace_logs.specs.Logs.{header}
 use Rattle.trace_logs.specs.Pieces.{Reading, opened, given, toEnd}
 use Rattle.trace_logs.proofs.Whole.{one-piece}

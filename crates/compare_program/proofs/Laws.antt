@@ -3,7 +3,7 @@ use mathlib.Core.Path.{_≡_, ap, _∙_}
 use mathlib.Core.List.{List}
 use Prim.Native.Nat.{ℕ, _-_}
 use lib.ListN.{length, take, drop, length-drop}
-use Rattle.trace_lines.proofs.Laws.{rest as tail}
+use Rattle.text.proofs.Laws.{rest as tail}
 use Rattle.compare_logs.specs.Meeting.{Holding}
 
 pub holding-on : {words rows next told kept held : List ℕ} {len len′ : ℕ} → len′ ≡ len → Holding words rows next told kept held len → Holding words rows next told kept held len′

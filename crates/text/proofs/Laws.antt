@@ -2,19 +2,23 @@
 use mathlib.Core.Path.{_≡_, refl, ap, sym, _∙_}
 use mathlib.Core.Bool.{Bool, true, false, cond, and-false}
 use mathlib.Core.List.{List, [], _∷_, _++_}
-use Prim.Native.Nat.{ℕ, zero, suc, _+_, _*_, _/_, _%_, _^_, _<_, _≤_}
+use Prim.Native.Nat.{ℕ, zero, suc, _+_, _-_, _*_, _/_, _%_, _^_, _<_, _≤_}
 use native.Mathlib.Numerals.{add-one}
 use native.Mathlib.Nat.{pow-suc, pow-le-pow-right, lt-of-lt-of-le}
 use native.Mathlib.Omega.{arith}
 use lib.Dec.{eqb, leb, ltb, lit<}
 use lib.Bits.{bitAnd, and-le-r}
-use lib.ListN.{length, drop, getD, set, length-append}
-use lib.Seq.{drop-cons, sets, length-sets, set-comm}
+use lib.ListN.{length, take, drop, getD, set, length-append, length-drop}
+use lib.Seq.{drop-cons, take-all, sets, length-sets, set-comm}
 use borrow.Author.Tests.{ne-eqb, eq-eqb, lt-ltb, le-ltb, le-leb, lt-leb, leb-true}
 use Rattle.bits.proofs.Decide.{each}
 use Rattle.text.specs.declared.Digits.{Digits}
 use Rattle.text.specs.declared.Digits.the-variants.{Number, None}
 use Rattle.text.specs.Text.{startsWith, digitOf, numberOf, upTo, fieldOf, Small, digitByte, hexText, Wrote}
+
+-- the rest of a list, as a part of it that ends where it ends
+pub rest : (at : ℕ) (s : List ℕ) → take (length s - at) (drop at s) ≡ drop at s
+rest at s = take-all (length s - at) (drop at s) (omega (arith, length-drop at s))
 
 pub starts-short : (word text : List ℕ) → length text < length word → startsWith word text ≡ false
 unfolding startsWith

@@ -13,7 +13,7 @@ use Rattle.bits.proofs.Decide.{and-right, either-arm}
 use Rattle.map.specs.Map.{Part, partOf}
 use Rattle.text.specs.declared.Digits.{Digits}
 use Rattle.text.specs.declared.Digits.the-variants.{Number, None}
-use Rattle.text.proofs.Laws.{starts-short, field-small}
+use Rattle.text.proofs.Laws.{starts-short, field-small, rest}
 use Rattle.text.specs.Text.{startsWith, isWord, fieldOf, Small}
 use Rattle.text_answers.specs.Answers.{digitsOf}
 use Rattle.trace_lines.specs.declared.Line.the-variants.{Event, Unreadable}
@@ -102,10 +102,6 @@ unfolding startsWith
 starts-long [] text h = omega arith
 starts-long (w ∷ word) [] h = let z : _≡_ {A = ℕ} 0 1 = cc in absurd (omega arith)
 starts-long (w ∷ word) (b ∷ text) h = let l : length word ≤ length text = starts-long word text (and-right (eqb b w) _ h) in omega arith
-
--- the rest of a list, as a part of it that ends where it ends
-pub rest : (at : ℕ) (s : List ℕ) → take (length s - at) (drop at s) ≡ drop at s
-rest at s = take-all (length s - at) (drop at s) (omega (arith, length-drop at s))
 
 module _ (part : ℕ) (s : List ℕ) where
   pub device-short : length s < 2 → Unreadable ≡ deviceOf part s

@@ -1,122 +1,21 @@
--- A piece is its first line and the rest, and of a line that has begun 33 bytes say as much as all of it. Assumes nothing.
+-- Of a line that has begun 33 bytes say as much as all of it, and the words go on holding what they hold. Assumes nothing.
 use mathlib.Core.Path.{_≡_, refl, ap, sym, _∙_}
-use mathlib.Core.Bool.{Bool, true, false, cond}
-use mathlib.Core.List.{List, [], _∷_, _++_, append-assoc, append-nil}
-use Prim.Native.Nat.{ℕ, suc, _+_, _-_, _<_, _≤_}
-use native.Mathlib.Numerals.{add-one}
+use mathlib.Core.Bool.{Bool, true, false}
+use mathlib.Core.List.{List}
+use Prim.Native.Nat.{ℕ, _<_, _≤_}
 use native.Mathlib.Omega.{arith}
-use borrow.Author.Tests.{eq-eqb, ne-eqb, lt-ltb, le-ltb, ltb-true, ltb-false}
-use lib.Dec.{eqb, ltb, leb·suc-suc}
-use lib.ListN.{length, take, drop, length-take, take-append-drop, drop-of-length-le}
-use lib.Seq.{drop-length, take-all, length-take-le}
+use borrow.Author.Tests.{lt-ltb, ltb-true, ltb-false}
+use lib.Dec.{ltb}
+use lib.ListN.{length, getD, take}
+use lib.Seq.{take-all, length-take-le}
 use Rattle.map.specs.Map.{Part}
-use Rattle.text_pieces.specs.Pieces.{newlineAt, takenOf}
-use Rattle.text_pieces.proofs.Laws.{take-again}
+use Rattle.words_state.specs.Packed.{partWord}
 use Rattle.trace_lines.specs.Lines.{lineOf}
-use Rattle.trace_logs.specs.Pieces.{Reading, Given, grown, ended, andThen, given, firstGiven, overlaid, heldAtEnd, heldAfter, atEnd}
-
-grown-twice : (r : Reading) (s t : List ℕ) → grown (grown r s) t ≡ grown r (s ++ t)
-grown-twice r s t =
-    ap (λ (x : List ℕ). record { session = r .session; begun = x }) (take-again 33 (r .begun ++ s) t ∙ ap (take 33) (append-assoc (r .begun) s t))
-
-grown-small : (r : Reading) (s : List ℕ) → length (grown r s .begun) ≤ 33
-grown-small r s = omega (arith, length-take 33 (r .begun ++ s))
-
-grown-nothing : (r : Reading) → length (r .begun) ≤ 33 → grown r [] ≡ r
-grown-nothing r h = ap (λ (x : List ℕ). record { session = r .session; begun = x }) (ap (take 33) (append-nil (r .begun)) ∙ take-all 33 (r .begun) h)
-
--- a piece with no newline
-given-none : (r : Reading) (piece : List ℕ) → length (r .begun) ≤ 33 → length piece ≤ newlineAt piece → given r piece ≡ record { text = []; after = grown r piece }
-unfolding given newlineAt
-given-none r [] small h = ap (λ (x : Reading). record { text = []; after = x }) (sym (grown-nothing r small))
-given-none r (b ∷ piece) small h = go (eqb b 0x0a) h (given-none (grown r (b ∷ [])) piece (grown-small r (b ∷ [])))
-  where
-    go : (t : Bool) → suc (length piece) ≤ cond t 0 (suc (newlineAt piece))
-        → (length piece ≤ newlineAt piece → given (grown r (b ∷ [])) piece ≡ record { text = []; after = grown (grown r (b ∷ [])) piece })
-        → cond t (andThen (ended r .text) (given (ended r .after) piece)) (given (grown r (b ∷ [])) piece) ≡ record { text = []; after = grown r (b ∷ piece) }
-    go true l later = absurd (omega arith)
-    go false l later = later (omega arith) ∙ ap (λ (x : Reading). record { text = []; after = x }) (grown-twice r (b ∷ []) piece)
-
--- a line is answered, and the rest read
-abbrev lineThen : Reading → List ℕ → Given
-lineThen r rest = andThen (ended r .text) (given (ended r .after) rest)
-
--- a piece with a newline
-given-line : (r : Reading) (piece : List ℕ) → length (r .begun) ≤ 33 → newlineAt piece < length piece
-    → given r piece ≡ lineThen (grown r (take (newlineAt piece) piece)) (drop (newlineAt piece + 1) piece)
-unfolding given newlineAt
-given-line r [] small h = absurd (omega arith)
-given-line r (b ∷ piece) small h = go (eqb b 0x0a) h (given-line (grown r (b ∷ [])) piece (grown-small r (b ∷ [])))
-  where
-    go : (t : Bool) → cond t 0 (suc (newlineAt piece)) < suc (length piece)
-        → (newlineAt piece < length piece → given (grown r (b ∷ [])) piece ≡ lineThen (grown (grown r (b ∷ [])) (take (newlineAt piece) piece)) (drop (newlineAt piece + 1) piece))
-        → cond t (lineThen r piece) (given (grown r (b ∷ [])) piece)
-        ≡ lineThen (grown r (take (cond t 0 (suc (newlineAt piece))) (b ∷ piece))) (drop (cond t 0 (suc (newlineAt piece)) + 1) (b ∷ piece))
-    go true l later = ap (λ (x : Reading). lineThen x piece) (sym (grown-nothing r small))
-    go false l later =
-        let e : suc (newlineAt piece) + 1 ≡ suc (newlineAt piece + 1) = omega arith in
-        later (omega arith)
-        ∙ ap (λ (x : Reading). lineThen x (drop (newlineAt piece + 1) piece)) (grown-twice r (b ∷ []) (take (newlineAt piece) piece))
-        ∙ ap (λ (k : ℕ). lineThen (grown r (b ∷ take (newlineAt piece) piece)) (drop k (b ∷ piece))) (sym e)
-
--- the first line of a piece, or all of it, and then the rest
-pub given-first : (r : Reading) (piece : List ℕ) → length (r .begun) ≤ 33
-    → given r piece ≡ andThen (firstGiven r piece .text) (given (firstGiven r piece .after) (drop (takenOf piece) piece))
-unfolding firstGiven takenOf given
-given-first r piece small = go (ltb (newlineAt piece) (length piece)) refl
-  where
-    first : Bool → Given
-    first t = cond t (ended (grown r (take (newlineAt piece) piece))) (record { text = []; after = grown r piece })
-
-    go : (t : Bool) → ltb (newlineAt piece) (length piece) ≡ t
-        → given r piece ≡ andThen (first t .text) (given (first t .after) (drop (cond t (newlineAt piece + 1) (length piece)) piece))
-    go true e = given-line r piece small (ltb-true (newlineAt piece) (length piece) e)
-    go false e =
-        given-none r piece small (ltb-false (newlineAt piece) (length piece) e)
-        ∙ ap (λ (x : List ℕ). given (grown r piece) x) (sym (drop-length piece))
-
--- nothing added leaves the held bytes as they are
-pub overlaid-nothing : (held : List ℕ) (len : ℕ) → len ≤ 33 → length held ≡ 33 → overlaid held len [] ≡ held
-unfolding overlaid
-overlaid-nothing held len small whole =
-    let e : take 33 (take len held ++ []) ≡ take len held =
-    ap (take 33) (append-nil (take len held)) ∙ take-all 33 (take len held) (omega (arith, length-take len held)) in
-    ap (λ (s : List ℕ). s ++ drop (length s) held) e
-    ∙ ap (λ (n : ℕ). take len held ++ drop n held) (length-take-le len held (omega arith)) ∙ take-append-drop len held
-
--- the held bytes after a piece, by its first line, whose newline is at n, or by all of a piece with no newline
-module _ (held : List ℕ) (len : ℕ) where
-  abbrev heldBy : (n : ℕ) → (part piece : List ℕ) → List ℕ
-  heldBy n part piece =
-      cond (ltb n (length piece)) (heldAfter (heldAtEnd held len (part ++ take n piece)) 0 [] (drop (suc n) piece)) (overlaid held len (part ++ piece))
-
-  held-first : (part piece : List ℕ) → heldAfter held len part piece ≡ heldBy (newlineAt piece) part piece
-  unfolding heldAfter newlineAt
-  held-first part [] = ap (overlaid held len) (sym (append-nil part))
-  held-first part (b ∷ piece) = go (eqb b 0x0a) (held-first (part ++ (b ∷ [])) piece)
-    where
-      go : (t : Bool) → heldAfter held len (part ++ (b ∷ [])) piece ≡ heldBy (newlineAt piece) (part ++ (b ∷ [])) piece
-          → cond t (heldAfter (heldAtEnd held len part) 0 [] piece) (heldAfter held len (part ++ (b ∷ [])) piece)
-          ≡ heldBy (cond t 0 (suc (newlineAt piece))) part (b ∷ piece)
-      go true later = simp (append-nil part, lt-ltb 0 (suc (length piece)) (omega arith))
-      go false later = later ∙ simp (append-assoc part (b ∷ []) piece, append-assoc part (b ∷ []) (take (newlineAt piece) piece), leb·suc-suc (suc (newlineAt piece)) (length piece))
-
-  module _ (piece : List ℕ) (n : ℕ) (found : n ≡ newlineAt piece) {left : List ℕ} where
-    pub none-holds : length piece ≤ n → {end : ℕ} → end ≤ 33 → length left ≡ 33 → left ≡ overlaid held len piece
-        → heldAfter left end [] (drop n piece) ≡ heldAfter held len [] piece
-    unfolding heldAfter
-    none-holds all {end} small whole e =
-        ap (heldAfter left end []) (drop-of-length-le piece all) ∙ overlaid-nothing left end small whole ∙ e
-        ∙ sym (held-first [] piece ∙ rw (le-ltb (newlineAt piece) (length piece) (omega arith)) refl)
-
-    pub line-holds : n < length piece → left ≡ heldAtEnd held len (take (n - 0) piece) → heldAfter left 0 [] (drop (n + 1) piece) ≡ heldAfter held len [] piece
-    line-holds inside e =
-        let m : n - 0 ≡ n = omega arith in
-        ap (λ (x : List ℕ). heldAfter x 0 [] (drop (n + 1) piece)) (e ∙ ap (λ (k : ℕ). heldAtEnd held len (take k piece)) m)
-        ∙ sym (held-first [] piece ∙ rw (sym found, lt-ltb n (length piece) inside, add-one n) refl)
+use Rattle.trace_session.specs.Tracing.{Session, partIn, traced, answerTo}
+use Rattle.trace_logs.specs.Pieces.{Holds}
 
 -- of a line over 32 bytes the first 33 say as much as all of it
-pub line-take : (p : Part) (s : List ℕ) → lineOf p (take 33 s) ≡ lineOf p s
+line-take : (p : Part) (s : List ℕ) → lineOf p (take 33 s) ≡ lineOf p s
 unfolding lineOf
 line-take p s = go (ltb 32 (length s)) refl
   where
@@ -126,11 +25,11 @@ line-take p s = go (ltb 32 (length s)) refl
         rw (lt-ltb 32 (length s) l, length-take-le 33 s (omega arith))
     go false e = let l : length s ≤ 32 = ltb-false 32 (length s) e in ap (lineOf p) (take-all 33 s (omega arith))
 
--- the end of the log: nothing where no line has begun, else its answer
-pub end-none : (r : Reading) → length (r .begun) ≡ 0 → atEnd r ≡ record { text = []; after = r }
-unfolding atEnd
-end-none r z = simp (eq-eqb (length (r .begun)) 0 z)
+pub answer-take : (x : Session) (line : List ℕ) → answerTo x (take 33 line) ≡ answerTo x line
+answer-take x line = ap (traced x) (line-take (partIn x) line)
 
-pub end-line : (r : Reading) → (length (r .begun) ≡ 0 → ⊥) → atEnd r ≡ ended r
-unfolding atEnd
-end-line r some = simp (ne-eqb (length (r .begun)) 0 some)
+pub holds-on : {words₀ words words′ : List ℕ} → Holds words₀ words → Holds words words′ → Holds words₀ words′
+holds-on here then = record {
+  kept = then .kept;
+  untouched = λ none. (then .untouched none ∙ here .untouched (ap (λ (w : List ℕ). ltb (getD w partWord 0) 2) (sym (then .untouched none)) ∙ none));
+}

@@ -1,3 +1,2 @@
-pub mod Feeding
 pub mod Laws
 pub mod Whole

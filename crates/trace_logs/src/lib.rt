@@ -7,7 +7,8 @@ ghost use Rattle.text.specs.Text.{Wrote};
 ghost use Rattle.trace_session.specs.Tracing.{Kept, Says, Beside};
 ghost use Rattle.trace_logs.specs.Logs.{header};
 ghost use Rattle.text_pieces.specs.Pieces.{takenOf};
-ghost use Rattle.trace_logs.specs.Pieces.{readingOf, opened, grown, answerOf, given, firstGiven, overlaid, heldAtEnd, heldAfter, Gives, Ends};
+ghost use Rattle.text_logs.specs.Pieces.{grown, overlaid, heldAtEnd, heldAfter};
+ghost use Rattle.trace_logs.specs.Pieces.{readingOf, opened, answerOf, given, firstGiven, Gives, Ends};
 
 // How many bytes of the line that has begun are held, and where the answers end.
 pub struct Fed {

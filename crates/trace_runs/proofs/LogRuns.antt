@@ -25,13 +25,14 @@ use Rattle.trace_lines.proofs.Laws.{line-means}
 use Rattle.text_answers.specs.Answers.{answerLine, shownText, shownLine}
 use Rattle.trace_session.specs.Tracing.{Session, partIn, traced, answerTo}
 use Rattle.trace_session.specs.Tracing.Session.{NoDevice, With}
-use Rattle.trace_logs.specs.Logs.{header, linesOf, answersFrom, answersOf}
+use Rattle.text_logs.specs.Lines.{linesOf, answersFrom}
+use Rattle.trace_logs.specs.Logs.{header, answersOf}
 use Rattle.trace_runs.specs.LogRuns.{Life, seenLines, lifeLines, livesLines, SayEvents, SayLife, SayLives, allLines, Answered, AllAnswered}
 
 -- ---- a log and the runs
 -- events of a device, and the lines behind them
 events-seen : (part : ℕ) (s : State) (lines more : List (List ℕ)) (es : List Asked) → SayEvents (partOf part) lines es
-    → answersFrom (With part s) (lines ++ more) ≡ seenLines (partOf part) (seenFrom (partOf part) s es) ++ answersFrom (With part (after (partOf part) s es)) more
+    → answersFrom answerTo (With part s) (lines ++ more) ≡ seenLines (partOf part) (seenFrom (partOf part) s es) ++ answersFrom answerTo (With part (after (partOf part) s es)) more
 unfolding answersFrom seenLines seenFrom after traced shownLine shownText answerLine
 events-seen part s [] more [] says = refl
 events-seen part s [] more (e ∷ es) says = absurd says
@@ -39,24 +40,24 @@ events-seen part s (l ∷ lines) more [] says = absurd says
 events-seen part s (l ∷ lines) more (e ∷ es) says =
     let p : Part = partOf part in
     let o : Outcome = stepped p s (e .kind) (e .arg) in
-    ap (λ (x : Line). traced (With part s) x .line ++ answersFrom (traced (With part s) x .after) (lines ++ more)) (says .0)
+    ap (λ (x : Line). traced (With part s) x .line ++ answersFrom answerTo (traced (With part s) x .after) (lines ++ more)) (says .0)
     ∙ ap (λ (t : List ℕ). shownLine p o ++ t) (events-seen part (o .after) lines more es (says .1))
-    ∙ sym (append-assoc (shownLine p o) (seenLines p (seenFrom p (o .after) es)) (answersFrom (With part (after p (o .after) es)) more))
+    ∙ sym (append-assoc (shownLine p o) (seenLines p (seenFrom p (o .after) es)) (answersFrom answerTo (With part (after p (o .after) es)) more))
 
 -- a device's life, whatever there was before
 life-seen : (x : Session) (lines more : List (List ℕ)) (d : Life) → SayLife (partIn x) lines d
-    → answersFrom x (lines ++ more)
-    ≡ lifeLines d ++ answersFrom (With (d .part) (after (partOf (d .part)) (powerOn (partOf (d .part)) (d .choice) (d .levels) 0) (d .events))) more
+    → answersFrom answerTo x (lines ++ more)
+    ≡ lifeLines d ++ answersFrom answerTo (With (d .part) (after (partOf (d .part)) (powerOn (partOf (d .part)) (d .choice) (d .levels) 0) (d .events))) more
 unfolding answersFrom seenLines traced shownLine shownText answerLine
 life-seen x [] more d says = absurd says
 life-seen x (l ∷ lines) more d says =
     let p : Part = partOf (d .part) in
     let s : State = powerOn p (d .choice) (d .levels) 0 in
-    ap (λ (y : Line). traced x y .line ++ answersFrom (traced x y .after) (lines ++ more)) (says .0)
+    ap (λ (y : Line). traced x y .line ++ answersFrom answerTo (traced x y .after) (lines ++ more)) (says .0)
     ∙ ap (λ (t : List ℕ). shownLine p (out Nothing s) ++ t) (events-seen (d .part) s lines more (d .events) (says .1))
-    ∙ sym (append-assoc (shownLine p (out Nothing s)) (seenLines p (seenFrom p s (d .events))) (answersFrom (With (d .part) (after p s (d .events))) more))
+    ∙ sym (append-assoc (shownLine p (out Nothing s)) (seenLines p (seenFrom p s (d .events))) (answersFrom answerTo (With (d .part) (after p s (d .events))) more))
 
-lives-seen : (x : Session) (groups : List (List (List ℕ))) (ds : List Life) → SayLives (partIn x) groups ds → answersFrom x (allLines groups) ≡ livesLines ds
+lives-seen : (x : Session) (groups : List (List (List ℕ))) (ds : List Life) → SayLives (partIn x) groups ds → answersFrom answerTo x (allLines groups) ≡ livesLines ds
 unfolding answersFrom allLines livesLines
 lives-seen x [] [] says = refl
 lives-seen x [] (d ∷ ds) says = absurd says
@@ -69,7 +70,7 @@ lives-seen x (lines ∷ groups) (d ∷ ds) says =
 pub log-run : (log : List ℕ) (groups : List (List (List ℕ))) (ds : List Life) → linesOf [] log ≡ allLines groups → SayLives part34 groups ds → answersOf log ≡ header ++ livesLines ds
 unfolding answersOf
 log-run log groups ds all says =
-    ap (λ (x : List (List ℕ)). header ++ answersFrom NoDevice x) all ∙ ap (λ (t : List ℕ). header ++ t) (lives-seen NoDevice groups ds says)
+    ap (λ (x : List (List ℕ)). header ++ answersFrom answerTo NoDevice x) all ∙ ap (λ (t : List ℕ). header ++ t) (lives-seen NoDevice groups ds says)
 
 -- ---- refusals
 lawful : (part : ℕ) → Lawful (partOf part)

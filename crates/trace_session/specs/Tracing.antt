@@ -16,6 +16,7 @@ use Rattle.words_rows.specs.Rows.{Rowed}
 use Rattle.words_state.specs.Packed.{partWord, stateIn, Packed}
 use Rattle.words_device.specs.Named.{Named}
 use Rattle.text.specs.Text.{Wrote}
+use Rattle.text_logs.specs.Lines.{Reply}
 use Rattle.trace_lines.specs.declared.Line.{Line}
 use Rattle.trace_lines.specs.declared.Line.the-variants.{Device, Event, Unreadable}
 use Rattle.trace_lines.specs.Lines.{lineOf}
@@ -35,10 +36,8 @@ abbrev pub partIn : Session → Part
 partIn NoDevice = part34
 partIn (With part s) = partOf part
 
--- the line that answers, and what there is after it
-pub record Traced : Type 0 where
-  pub line : List ℕ
-  pub after : Session
+abbrev pub Traced : Type 0
+Traced = Reply Session
 
 abbrev pub toldBy : (part : ℕ) → Outcome → Traced
 toldBy part o = record { line = shownLine (partOf part) o; after = With part (o .after) }

@@ -2,8 +2,9 @@
 use borrow.Author.Needs.{needs}
 use native.Mathlib.Omega.{arith}
 use mathlib.Core.Path.{sym}
+use Rattle.trace_session.specs.Tracing.{sessionOf}
 use Rattle.trace_logs.specs.Pieces.{readingOf}
-use Rattle.trace_logs.proofs.Feeding.{begun-small, taken-some}
+use Rattle.text_logs.proofs.Feeding.{begun-small, taken-some}
 use Rattle.compare_logs.proofs.Laws.{first-there, some-there, meets-nothing, meets-line, meets-verdict}
 use Rattle.compare_logs.proofs.meet_line.Statement.{statement}
 use Rattle.compare_logs.proofs.meet_line.Tie as tie
@@ -22,8 +23,8 @@ returns c =
     let x = s .args in
     let r = readingOf (x .words .now) (x .held .now) (x .len) in
     let t = first-there r (x .events .now) (g .0) (s .pre .2) in (
-      meets-nothing r (x .events .now) (begun-small (x .words .now) (x .held .now) (x .len) (s .pre .0 .small)) (s .pre .1) (x .answers .now) (g .0 .goes-on) (g .1) (omega (arith, t .ends, c .if1 .taken)),
-      record { kept-device = g .0 .kept; beside = g .3; small = g .0 .small; whole = g .0 .whole },
+      meets-nothing r (x .events .now) (begun-small (sessionOf (x .words .now)) (x .held .now) (x .len) (s .pre .0 .small)) (s .pre .1) (x .answers .now) (g .0 .gives .goes-on) (g .1) (omega (arith, t .ends, c .if1 .taken)),
+      record { kept-device = g .0 .holds .kept; beside = g .3; small = g .0 .gives .small; whole = g .0 .gives .whole },
       t .long,
       t .within,
       λ v. rw (sym (g .1)) at (taken-some (x .events .now) (s .pre .1) .0),
@@ -53,8 +54,8 @@ returns-2 c =
     let x = s .args in
     let r = readingOf (x .words .now) (x .held .now) (x .len) in
     let t = first-there r (x .events .now) (g .0) (s .pre .2) in (
-      meets-line r (x .events .now) (begun-small (x .words .now) (x .held .now) (x .len) (s .pre .0 .small)) (s .pre .1) (x .answers .now) (g .0 .goes-on) (g .1) t (e .if1 .left) (j .judge .ensures) (c .if2 .taken),
-      record { kept-device = g .0 .kept; beside = g .3; small = g .0 .small; whole = g .0 .whole },
+      meets-line r (x .events .now) (begun-small (sessionOf (x .words .now)) (x .held .now) (x .len) (s .pre .0 .small)) (s .pre .1) (x .answers .now) (g .0 .gives .goes-on) (g .1) t (e .if1 .left) (j .judge .ensures) (c .if2 .taken),
+      record { kept-device = g .0 .holds .kept; beside = g .3; small = g .0 .gives .small; whole = g .0 .gives .whole },
       t .long,
       t .within,
       λ v. rw (sym (g .1)) at (taken-some (x .events .now) (s .pre .1) .0),
@@ -70,8 +71,8 @@ returns-3 c =
     let x = s .args in
     let r = readingOf (x .words .now) (x .held .now) (x .len) in
     let t = first-there r (x .events .now) (g .0) (s .pre .2) in (
-      meets-verdict r (x .events .now) (begun-small (x .words .now) (x .held .now) (x .len) (s .pre .0 .small)) (s .pre .1) (x .answers .now) (g .0 .goes-on) (g .1) t (e .if1 .left) (j .judge .ensures) (c .if2 .left) _,
-      record { kept-device = g .0 .kept; beside = g .3; small = s .pre .0 .small; whole = g .0 .whole },
+      meets-verdict r (x .events .now) (begun-small (sessionOf (x .words .now)) (x .held .now) (x .len) (s .pre .0 .small)) (s .pre .1) (x .answers .now) (g .0 .gives .goes-on) (g .1) t (e .if1 .left) (j .judge .ensures) (c .if2 .left) _,
+      record { kept-device = g .0 .holds .kept; beside = g .3; small = s .pre .0 .small; whole = g .0 .gives .whole },
       t .long,
       t .within,
       λ v. absurd (c .if2 .left v),

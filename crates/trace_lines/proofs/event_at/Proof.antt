@@ -1,6 +1,6 @@
 -- `trace_lines::event_at`: the part of the line from the place on is the rest of the line. Assumes nothing.
 use Rattle.text.specs.Text.{fieldOf}
-use Rattle.trace_lines.proofs.Laws.{rest}
+use Rattle.text.proofs.Laws.{rest}
 use mathlib.Core.Path.{ap, _∙_}
 use Rattle.trace_lines.specs.Lines.{eventWith}
 use borrow.Author.Needs.{needs}

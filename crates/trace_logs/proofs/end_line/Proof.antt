@@ -2,9 +2,11 @@
 use borrow.Author.Needs.{needs}
 use borrow.Author.Tests.{eq-eqb, ne-eqb}
 use mathlib.Core.Path.{refl}
-use Rattle.trace_logs.specs.Pieces.{heldAtEnd}
+use Rattle.text_logs.specs.Pieces.{heldAtEnd}
 use Rattle.trace_session.proofs.Laws.{says-as}
-use Rattle.trace_logs.proofs.Feeding.{line-whole}
+use Rattle.text_logs.proofs.Feeding.{line-whole}
+use Rattle.trace_session.specs.Tracing.{sessionOf, answerTo}
+use Rattle.trace_logs.proofs.Laws.{answer-take}
 use Rattle.trace_logs.proofs.end_line.Statement.{statement}
 use Rattle.trace_logs.proofs.end_line.Tie as tie
 
@@ -14,7 +16,7 @@ returns c =
     let p = c .before .before in
     let t = p .before .before .before .before .before .before .before in
     let s = t .before .before .before in
-    (says-as (line-whole (s .args .words .now) (s .args .held .now) (s .args .len) (t .if1 .taken) (s .args .part .now)) (p .answer-line .ensures .0), s .pre .2, rw (eq-eqb (s .args .len) 0 (t .if1 .taken)) refl, p .answer-line .ensures .1)
+    (says-as (line-whole answerTo (sessionOf (s .args .words .now)) (s .args .held .now) (s .args .len) (answer-take _) (t .if1 .taken) (s .args .part .now)) (p .answer-line .ensures .0), s .pre .2, rw (eq-eqb (s .args .len) 0 (t .if1 .taken)) refl, p .answer-line .ensures .1)
 
 returns-2 : tie.Need-returns-2
 unfolding heldAtEnd

@@ -1,8 +1,9 @@
 -- `trace_logs::first_line`: with no newline all of the piece is carried on, else its first line is answered. Assumes nothing.
 use borrow.Author.Needs.{needs}
-use mathlib.Core.Path.{sym, _∙_}
-use Rattle.trace_logs.proofs.Laws.{none-holds, line-holds}
-use Rattle.trace_logs.proofs.Feeding.{none-gives, line-gives}
+use mathlib.Core.Path.{refl, sym, _∙_}
+use Rattle.text_logs.proofs.Laws.{none-holds, line-holds}
+use Rattle.text_logs.proofs.Feeding.{none-gives, line-gives}
+use Rattle.trace_session.specs.Tracing.{answerTo}
 use Rattle.trace_logs.proofs.first_line.Statement.{statement}
 use Rattle.trace_logs.proofs.first_line.Tie as tie
 
@@ -14,8 +15,8 @@ returns c =
     let f = n .first-line .ensures in
     let g = c .grow .ensures in
     let all = f .unended (t .if1 .taken) in
-    let gives = none-gives _ _ _ (f .ends) all (f .inside) _ _ (s .pre .0) (g .0 (s .args .words .now)) (g .2) (g .1) in
-    (gives .0, f .takes, rw (f .takes ∙ sym (gives .1)) (none-holds _ _ _ _ (f .ends) all (g .2) (g .1) (g .3)), s .pre .4)
+    let gives = none-gives answerTo _ _ _ (f .ends) all (f .inside) _ _ (g .0 (s .args .words .now)) (g .2) (g .1) in
+    (record { gives = gives .0; holds = record { kept = s .pre .0; untouched = λ h. refl } }, f .takes, rw (f .takes ∙ sym (gives .1)) (none-holds _ _ _ _ (f .ends) all (g .2) (g .1) (g .3)), s .pre .4)
 
 returns-2 : tie.Need-returns-2
 returns-2 c =
@@ -23,8 +24,9 @@ returns-2 c =
     let e = p .before .before .before .before .before .before .before .before .before in
     let f = e .before .first-line .ensures in
     let some = f .ended (search needs) in
-    let gives = line-gives _ _ _ (f .ends) some (p .end-line .ensures .0) (p .end-line .ensures .1) in
-    (gives .0, f .takes, rw (f .takes ∙ sym (gives .1)) (line-holds _ _ _ _ (f .ends) some (p .end-line .ensures .2)), p .end-line .ensures .3)
+    let said = p .end-line .ensures .0 in
+    let gives = line-gives answerTo _ _ _ (f .ends) some (said .says) (said .goes-on) (p .end-line .ensures .1) in
+    (record { gives = gives .0; holds = record { kept = said .kept; untouched = said .untouched } }, f .takes, rw (f .takes ∙ sym (gives .1)) (line-holds _ _ _ _ (f .ends) some (p .end-line .ensures .2)), p .end-line .ensures .3)
 
 pub first-line-spec : {M : Type 1} → statement M
 first-line-spec = tie.close (tie.spec (λ c κs. search needs) (λ c κs. search needs) returns (λ c. search needs) (λ c. search needs) (λ c. search needs) (λ c κs. search needs) (λ c. search needs) returns-2)

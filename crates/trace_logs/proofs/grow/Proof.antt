@@ -6,7 +6,7 @@ use Prim.Native.Nat.{ℕ}
 use lib.ListN.{length}
 use Rattle.text_pieces.proofs.Laws.{kept-most}
 use Rattle.trace_session.specs.Tracing.{sessionOf}
-use Rattle.trace_logs.specs.Pieces.{overlaid}
+use Rattle.text_logs.specs.Pieces.{reading, overlaid}
 use Rattle.trace_logs.proofs.grow.Statement.{statement}
 use Rattle.trace_logs.proofs.grow.Tie as tie
 
@@ -17,7 +17,7 @@ returns c =
     let s = c .before .before .before in
     let all : length (s .args .held .now) ≡ 33 = search needs in
     let kept = kept-most 33 all (k .ensures) in
-    (λ words. ap (λ (x : List ℕ). record { session = sessionOf words; begun = x }) (kept .0), k .ensures .long ∙ all, kept .1, kept .2)
+    (λ words. ap (λ (x : List ℕ). reading (sessionOf words) x) (kept .0), k .ensures .long ∙ all, kept .1, kept .2)
 
 pub grow-spec : {M : Type 1} → statement M
 grow-spec = tie.close (tie.spec (λ c κs. search needs) returns)
