@@ -12,10 +12,17 @@
 
 enum { UNREADABLE = 7, MOST_ANSWER_BYTES = 32 };
 
+/* A refusal's number has at most two digits. */
+static inline uint8_t *put_decimal(uint8_t *to, uint32_t number)
+{
+    if (number >= 10)
+        to = put_byte(to, (uint8_t)('0' + number / 10));
+    return put_byte(to, (uint8_t)('0' + number % 10));
+}
+
 static inline uint8_t *put_refused(uint8_t *to, uint32_t number)
 {
-    to = PUT_WORDS(to, "refused\t");
-    return put_byte(to, (uint8_t)('0' + number));
+    return put_decimal(PUT_WORDS(to, "refused\t"), number);
 }
 
 static inline uint8_t *put_refusal(uint8_t *to, uint32_t number)

@@ -1,10 +1,10 @@
-/* ghixramel: the PCAL6524 and its sister of 34 pins, the PCAL6534, in software, the planner of quiet register writes,
- * and the comparison of a recorded chip with the device. Link with libghixramel.a. What is said of the PCAL6524's calls
- * holds of the sister's, which come last.
+/* ghixramel: the PCAL6524 and its sister of 34 pins, the PCAL6534, in software, loss marks that outlive its resets, the
+ * planner of quiet register writes, and the comparison of a recorded chip with the device. Link with libghixramel.a. What
+ * is said of the PCAL6524's calls holds of the sister's, which come last.
  *
  * Every function gives 0, or the number of its refusal; refused, it changes nothing that it was lent, with one
- * exception: a burst keeps what it did before the event that it refuses. No call needs a check first. Nothing is
- * allocated and nothing is kept between calls: the state lies in the caller's memory.
+ * exception: a burst, with marks or without, keeps what it did before the event that it refuses. No call needs a check
+ * first. Nothing is allocated and nothing is kept between calls: state and marks lie in the caller's memory.
  *
  * Memory that is lent is initialised, that for results too: a reference in the proved code is to initialised memory.
  * What is lent to one call must not overlap, nor be NULL.
@@ -46,6 +46,15 @@ struct ghixramel_image {
     uint64_t place;         /* the byte of it that is read next, 0 to 2, 0 the highest */
 };
 
+/* Loss marks, which stand beside a device: one bit for each pin, pin 0 in the lowest. A mark says that its pin has had a
+ * loss, or may have had one, and that nobody has signed it off since; no reset takes it away. Marks are made by
+ * ghixramel_marks_new, where it is said what they are for. They do not say their part: the call does, and marks of a pin
+ * that its part does not have are broken, refusal 3. There is no padding here either. */
+struct ghixramel_marks {
+    uint64_t set;     /* the pins whose mark is set */
+    uint64_t healthy; /* the pins whose healthy level is 1, as the marks were made with them */
+};
+
 /* C99 has no static assertion: an array of -1 bytes stops its compiler, so that no processor's layout goes unseen. */
 #if defined(__cplusplus)
 #define GHIXRAMEL_ASSERT(name, fact) static_assert(fact, #fact)
@@ -54,7 +63,7 @@ struct ghixramel_image {
 #else
 #define GHIXRAMEL_ASSERT(name, fact) typedef char ghixramel_assert_##name[(fact) ? 1 : -1]
 #endif
-/* The library takes a pointer to the words, and a pointer to the state is one. */
+/* The library takes a pointer to the words, and a pointer to the state is one; to both sets of the marks, and so is theirs. */
 GHIXRAMEL_ASSERT(words, offsetof(struct ghixramel, words) == 0);
 GHIXRAMEL_ASSERT(size, sizeof(struct ghixramel) == 224);
 GHIXRAMEL_ASSERT(pins, offsetof(struct ghixramel_image, pins) == 0);
@@ -68,18 +77,22 @@ GHIXRAMEL_ASSERT(mode, offsetof(struct ghixramel_image, mode) == 200);
 GHIXRAMEL_ASSERT(number, offsetof(struct ghixramel_image, number) == 208);
 GHIXRAMEL_ASSERT(place, offsetof(struct ghixramel_image, place) == 216);
 GHIXRAMEL_ASSERT(image_size, sizeof(struct ghixramel_image) == 224);
+GHIXRAMEL_ASSERT(set, offsetof(struct ghixramel_marks, set) == 0);
+GHIXRAMEL_ASSERT(healthy, offsetof(struct ghixramel_marks, healthy) == 8);
+GHIXRAMEL_ASSERT(marks_size, sizeof(struct ghixramel_marks) == 16);
 #undef GHIXRAMEL_ASSERT
 
 /* Refusals. */
 enum {
     GHIXRAMEL_DONE = 0,
     GHIXRAMEL_BAD_KIND = 1,     /* event kind above 5 */
-    GHIXRAMEL_BAD_ARGUMENT = 2, /* byte, acknowledge bit, levels, choice, number of a device or register, or a burst's third word out of range */
-    GHIXRAMEL_BAD_IMAGE = 3,    /* broken: a number out of range, an entry where none is stored, a wrong status or line, or words of no image */
+    GHIXRAMEL_BAD_ARGUMENT = 2, /* byte, acknowledge bit, levels, choice, number of a device, register or pin, or a burst's third word out of range */
+    GHIXRAMEL_BAD_IMAGE = 3,    /* broken: a number or a mark out of range, an entry where none is stored, a wrong status or line, or words of no image */
     GHIXRAMEL_NO_QUIET_WAY = 4, /* no list of writes gets there without disturbing a pin */
     GHIXRAMEL_BAD_SETTING = 5,  /* start or goal not ten bytes (the sister: sixteen), or with a bit that does not exist, as a 5C over 7 */
     GHIXRAMEL_BUFFER_SMALL = 6, /* plan buffer under GHIXRAMEL_PLAN_BYTES (the sister: GHIXRAMEL34_PLAN_BYTES) */
-    GHIXRAMEL_BAD_BURST = 8     /* bytes that are no whole events, more asked than given or allowed, or no room for the answers */
+    GHIXRAMEL_BAD_BURST = 8,    /* bytes that are no whole events, more asked than given or allowed, or no room for the answers */
+    GHIXRAMEL_NOT_HEALTHY = 13  /* sign-off of a pin whose status bit is 1, or whose level is not its healthy one */
 };
 
 /* Event kinds. */
@@ -191,6 +204,37 @@ static inline uint32_t ghixramel_from_image(struct ghixramel *device, const stru
     return ghixramel_pack(device->words, image->pins, image->registers, rest);
 }
 
+/* What marks are for. A fibre opens, and INT is asserted. The host resets the device: the reset takes the present level for
+ * the quiet one, so INT is quiet while the fibre is still open, and nothing in the device tells of it but a level that
+ * nobody asks for. The mark of the pin is still set. It stays until somebody signs it off, and that is refused with 13 as
+ * long as the fibre is open, or its status bit is 1.
+ *
+ * A supervisor that powers on makes its marks new, and then all are set: it knows nothing yet of any pin. From then on it
+ * gives every event to ghixramel_marked_step or ghixramel_marked_burst; one that is given to ghixramel_step or
+ * ghixramel_burst goes past the marks. Keep the marks with the same care as the state, in memory of the same kind, stored
+ * and restored together with it. An image has none. */
+
+/* Marks all set, with these healthy levels; what their memory held does not matter. Refusal 2: levels of 2^24 or more. */
+uint32_t ghixramel_marks_new(struct ghixramel_marks *marks, uint64_t healthy);
+
+/* One event: state and answer are those of ghixramel_step. A pin's mark is set if its status bit is 0 before the event and 1
+ * after it, and by any reset, be it GHIXRAMEL_RESET or STOP in GHIXRAMEL_ARMED, that finds the status bit at 1. No event
+ * clears a mark. Refusals 3, 1, 2; 3 is of the state and of the marks, `set` or `healthy` of 2^24 or more. */
+uint32_t ghixramel_marked_step(struct ghixramel *device, struct ghixramel_marks *marks, uint32_t kind, uint64_t argument,
+                               uint8_t answer[2]);
+
+/* A burst as ghixramel_burst, of calls of ghixramel_marked_step: its events and answers, its refusals and their order, 3
+ * of the marks too. After a refused event the marks are, with the state, as after the events before it. Where none is
+ * asked there is no refusal but 8, whatever state and marks are. */
+uint32_t ghixramel_marked_burst(struct ghixramel *device, struct ghixramel_marks *marks, const uint8_t *events,
+                                uint64_t event_bytes, uint64_t asked, uint8_t *answers, uint64_t answer_bytes,
+                                uint64_t done[1]);
+
+/* Somebody has seen to the pin: its mark is cleared, or stays clear; nothing else clears one. Refusals 3, of the state and of
+ * the marks; 2, a pin over 23; 13, unless the pin's status bit is 0, as an output's is, and its level is its bit in
+ * `healthy`, also where the mark is clear already. It is the level itself, whatever polarity is set and a fetch shows. */
+uint32_t ghixramel_sign_off(const struct ghixramel *device, struct ghixramel_marks *marks, uint32_t pin);
+
 /* The writes that lead from one setting to another: writes[0] pairs register, value from the start of the buffer,
  * at most GHIXRAMEL_MOST_WRITES; bytes past them stay. Refusals 5, 6, 4. Lengths have 64 bits on every processor. */
 uint32_t ghixramel_plan(const uint8_t *start, uint64_t start_bytes, const uint8_t *goal, uint64_t goal_bytes,
@@ -224,8 +268,9 @@ uint32_t ghixramel_compare(const uint8_t *events, uint64_t event_bytes, const ui
 /* The sister, the PCAL6534, on the same structs: each call as its namesake, by the same code, with its own registers
  * and 34 pins. What is another number than the PCAL6524's:
  *
- * - levels and pin sets are below 2^34, nine hex digits; pins 34 to 39 do not exist: they are never driven and in no set,
- *   and the bits of their places in a register are ignored when written and read 0. Set in an image they are refusal 3;
+ * - levels and pin sets, those of marks too, are below 2^34, nine hex digits; pins 34 to 39 do not exist: they are never
+ *   driven and in no set, and the bits of their places in a register are ignored when written and read 0. Set in an image
+ *   or in marks they are refusal 3, and a sign-off of a pin over 33 is 2;
  * - an event of a burst has the upper half of its argument in its third word: levels up to 2^34 - 1 pass, a byte or an
  *   acknowledge bit with an upper half is 2, START, STOP and reset ignore all of it;
  * - a setting is sixteen bytes, for the registers 05-09 0F-13 53 68-6C in this order; a plan has at most 26 writes. */
@@ -240,6 +285,14 @@ uint32_t ghixramel34_int(const struct ghixramel *device, uint8_t asserted[1]);
 uint32_t ghixramel34_show(const struct ghixramel *device, uint32_t number, uint8_t shown[1]);
 uint32_t ghixramel34_pack(uint64_t words[28], const uint64_t pins[4], const uint8_t registers[128], const uint64_t rest[8]);
 uint32_t ghixramel34_unpack(const uint64_t words[28], uint64_t pins[4], uint8_t registers[128], uint64_t rest[8]);
+
+uint32_t ghixramel34_marks_new(struct ghixramel_marks *marks, uint64_t healthy);
+uint32_t ghixramel34_marked_step(struct ghixramel *device, struct ghixramel_marks *marks, uint32_t kind, uint64_t argument,
+                                 uint8_t answer[2]);
+uint32_t ghixramel34_marked_burst(struct ghixramel *device, struct ghixramel_marks *marks, const uint8_t *events,
+                                  uint64_t event_bytes, uint64_t asked, uint8_t *answers, uint64_t answer_bytes,
+                                  uint64_t done[1]);
+uint32_t ghixramel34_sign_off(const struct ghixramel *device, struct ghixramel_marks *marks, uint32_t pin);
 
 uint32_t ghixramel34_plan(const uint8_t *start, uint64_t start_bytes, const uint8_t *goal, uint64_t goal_bytes,
                           uint8_t *buffer, uint64_t buffer_bytes, uint64_t writes[1]);

@@ -1,7 +1,7 @@
 #!/usr/bin/env bash
 # The library as a C program calls it: the header in each language, its own checks (tests/c/host.c), then the independent model on seeded
-# images, logs, plans, views, bursts and pairs of events and answers (SEED, IMAGES, LOGS, PLANS, VIEWS, BURSTS and PAIRS on request:
-# IMAGES=100000 SEED=7 tests/host.sh).
+# images, logs, plans, views, bursts without and with marks, sign-offs, new marks, watch logs and pairs of events and answers (SEED, IMAGES,
+# LOGS, PLANS, VIEWS, BURSTS, MARKED_BURSTS, SIGN_OFFS, NEW_MARKS, WATCHES and PAIRS on request: IMAGES=100000 SEED=7 tests/host.sh).
 set -u
 cd "$(dirname "${BASH_SOURCE[0]}")/.." || exit 2
 . c/kit.sh
@@ -27,14 +27,17 @@ build_lines() { # PART PEER_OPTIONS..
         link_c "$out/trace$part" $(objects peer_trace$part as_peer $watched) "$library" &&
         link_c "$out/plan$part" $(objects plan_lines $watched) "$library" &&
         link_c "$out/views$part" $(objects view_lines $watched) "$library" &&
-        link_c "$out/burst$part" $(objects burst_lines $watched) "$library"
+        link_c "$out/burst$part" $(objects burst_lines $watched) "$library" &&
+        link_c "$out/marked_burst$part" $(objects marked_burst_lines $watched) "$library" &&
+        link_c "$out/sign_off$part" $(objects sign_off_lines $watched) "$library" &&
+        link_c "$out/new_marks$part" $(objects new_marks_lines $watched) "$library"
 }
 
 build() {
-    local name host="host checks guarded stack parts images words master inventory refused"
-    host+=" points identity refusals broken carried shows plans bursts compares"
+    local name host="host checks guarded stack parts images words master inventory losses refused"
+    host+=" points identity refusals broken carried shows plans bursts marks compares"
     mkdir -p "$out" || return 1
-    for name in $host as_peer plan_lines view_lines burst_lines log_pairs; do
+    for name in $host as_peer {plan,view,burst,marked_burst,sign_off,new_marks,watch}_lines log_pairs; do
         compile_c "$out/$name.o" "tests/c/$name.c" || return 1
     done
     for name in mix peer; do
@@ -43,6 +46,7 @@ build() {
     compile_c "$out/parts34.o" tests/c/parts.c -DFIRST_PART=1 || return 1
     # shellcheck disable=SC2046,SC2086
     link_c "$out/host" $(objects $host mix peer) "$library" &&
+        link_c "$out/watch" $(objects watch_lines checks guarded stack parts) "$library" &&
         link_c "$out/log_pairs" $(objects log_pairs checks guarded stack parts) "$library" &&
         build_lines "" && build_lines 34 -DPEER_DIGITS=9 '-DPEER_DEVICE="device34"'
 }
@@ -64,6 +68,9 @@ judge_part() { # PART PINS
     judge "plan$2" "plan$1" "${PLANS:-500}"
     judge "views$2" "views$1" "${VIEWS:-3000}"
     judge "burst$2" "burst$1" "${BURSTS:-2000}"
+    judge "marked-bursts$2" "marked_burst$1" "${MARKED_BURSTS:-2000}"
+    judge "sign-offs$2" "sign_off$1" "${SIGN_OFFS:-3000}"
+    judge "new-marks$2" "new_marks$1" "${NEW_MARKS:-1000}"
 }
 
 need_library || exit 1
@@ -82,5 +89,6 @@ compile_c "$out/header_32.o" tests/c/header.c -m32 || fail "the header for 32 bi
 judge_part "" 24
 judge_part 34 34
 # of both parts: their lines say which
+judge watch watch "${WATCHES:-300}"
 judge log-pairs log_pairs "${PAIRS:-4000}"
 exit $bad

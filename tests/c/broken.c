@@ -13,6 +13,9 @@
 
 enum { RANDOM_IMAGES = 3, SEED = 1 };
 
+/* Of every part. */
+static const struct ghixramel_marks whole_marks = {0};
+
 /* 3 comes before 1 and 2. */
 static void want_broken(const char *topic, uint64_t detail, const struct ghixramel *device)
 {
@@ -29,6 +32,11 @@ static void want_broken(const char *topic, uint64_t detail, const struct ghixram
     want("refusal of show of a number too large", GHIXRAMEL_BAD_IMAGE, show_refusal(device, 0x100));
     want("refusal of to_image", GHIXRAMEL_BAD_IMAGE, to_image_refusal(device));
     want("refusal of a burst", GHIXRAMEL_BAD_IMAGE, burst_refusal(device, GHIXRAMEL_START, 0, 0));
+    want("refusal of a marked step", GHIXRAMEL_BAD_IMAGE, marked_step_refusal(device, &whole_marks, GHIXRAMEL_START, 0));
+    want("refusal of a marked step of unknown kind", GHIXRAMEL_BAD_IMAGE, marked_step_refusal(device, &whole_marks, 6, 0));
+    want("refusal of a marked burst", GHIXRAMEL_BAD_IMAGE, marked_burst_refusal(device, &whole_marks, GHIXRAMEL_START, 0, 0));
+    want("refusal of a sign-off", GHIXRAMEL_BAD_IMAGE, sign_off_refusal(device, &whole_marks, 0));
+    want("refusal of a sign-off of no pin", GHIXRAMEL_BAD_IMAGE, sign_off_refusal(device, &whole_marks, part->pins));
 }
 
 static void want_whole(const char *topic, uint64_t detail, const struct ghixramel *device)
@@ -41,6 +49,9 @@ static void want_whole(const char *topic, uint64_t detail, const struct ghixrame
     want("refusal of show", GHIXRAMEL_DONE, show_refusal(device, 0x00));
     want("refusal of to_image", GHIXRAMEL_DONE, to_image_refusal(device));
     want("refusal of a burst", GHIXRAMEL_DONE, burst_refusal(device, GHIXRAMEL_START, 0, 0));
+    want("refusal of a marked step", GHIXRAMEL_DONE, marked_step_refusal(device, &whole_marks, GHIXRAMEL_START, 0));
+    want("refusal of a marked burst", GHIXRAMEL_DONE, marked_burst_refusal(device, &whole_marks, GHIXRAMEL_START, 0, 0));
+    want("refusal of a sign-off of no pin", GHIXRAMEL_BAD_ARGUMENT, sign_off_refusal(device, &whole_marks, part->pins));
 }
 
 /* Whatever the memory held: a device, or none. */

@@ -1,10 +1,12 @@
-/* Bursts beside single steps: every size, every way to be refused and at each place, and a list cut in any way. */
+/* Bursts beside single steps: every size, every way to be refused and at each place, and a list cut in any way. All of it without marks
+ * and with them. */
 #include "checks.h"
 #include "event_bytes.h"
 #include "guarded.h"
 #include "host_checks.h"
 #include "images.h"
 #include "inventory.h"
+#include "losses.h"
 #include "master.h"
 #include "mix.h"
 #include "refused.h"
@@ -29,9 +31,19 @@ static uint64_t whole_argument(struct whole_event event)
 /* What a burst is lent, and gives. */
 struct burst {
     struct ghixramel device;
+    struct ghixramel_marks marks;
     uint8_t answers[MOST_ROOM_BYTES];
     uint64_t done[1];
 };
+
+/* Without marks those of a burst are lent to nobody, and stay. */
+static int with_marks;
+
+/* Some set and some not, so that both a mark set and a mark cleared would show. */
+static const struct ghixramel_marks whole_marks = {.set = 0x5A5A5A, .healthy = 0x33CC33};
+
+/* What every burst begins with. */
+static struct ghixramel_marks first_marks;
 
 static struct whole_event list[CUT_EVENTS];
 static uint8_t bytes[CUT_EVENTS * EVENT];
@@ -76,11 +88,36 @@ static void make_inventory_list(uint32_t count, uint64_t seed, const struct ghix
         put_in_list(i, whole_of(inventory_next(&inventory), &random));
 }
 
+static void make_losses_list(uint32_t count, uint64_t seed, const struct ghixramel_image *image)
+{
+    struct losses losses;
+    uint64_t random = seed;
+    losses_begin(&losses, seed, (uint32_t)image->choice);
+    for (uint32_t i = 0; i < count; i++)
+        put_in_list(i, whole_of(losses_next(&losses), &random));
+}
+
 static struct burst burst_on(const struct ghixramel *device)
 {
-    struct burst burst = {.device = *device, .done = {UNTOUCHED}};
+    struct burst burst = {.device = *device, .marks = first_marks, .done = {UNTOUCHED}};
     memset(burst.answers, OLD, sizeof burst.answers);
     return burst;
+}
+
+static void single_step(struct ghixramel *device, struct ghixramel_marks *marks, struct whole_event event, uint8_t *answer)
+{
+    uint64_t argument = whole_argument(event);
+    uint32_t refusal = with_marks ? guarded_marked_step(device, marks, event.kind, argument, answer)
+                                  : guarded_step(device, event.kind, argument, answer);
+    want("refusal of a single step", GHIXRAMEL_DONE, refusal);
+}
+
+static uint32_t one_burst(struct ghixramel *device, struct ghixramel_marks *marks, const uint8_t *events, uint64_t event_bytes,
+                          uint64_t asked, uint8_t *answers, uint64_t answer_bytes, uint64_t done[1])
+{
+    if (with_marks)
+        return guarded_marked_burst(device, marks, events, event_bytes, asked, answers, answer_bytes, done);
+    return guarded_burst(device, events, event_bytes, asked, answers, answer_bytes, done);
 }
 
 /* The events from `first` on, one call each. */
@@ -88,21 +125,21 @@ static struct burst steps_on(const struct ghixramel *device, uint32_t first, uin
 {
     struct burst single = burst_on(device);
     for (uint32_t i = 0; i < count; i++)
-        want("refusal of a single step", GHIXRAMEL_DONE,
-             guarded_step(&single.device, list[first + i].kind, whole_argument(list[first + i]), single.answers + 2 * i));
+        single_step(&single.device, &single.marks, list[first + i], single.answers + 2 * i);
     single.done[0] = count;
     return single;
 }
 
 static uint32_t run(struct burst *burst, uint64_t event_bytes, uint64_t asked, uint64_t answer_bytes)
 {
-    return guarded_burst(&burst->device, bytes, event_bytes, asked, burst->answers, answer_bytes, burst->done);
+    return one_burst(&burst->device, &burst->marks, bytes, event_bytes, asked, burst->answers, answer_bytes, burst->done);
 }
 
 static void want_same(const struct burst *wanted, const struct burst *got)
 {
     want("done", wanted->done[0], got->done[0]);
     want("state differs", 0, memcmp(&wanted->device, &got->device, sizeof got->device) != 0);
+    want("marks differ", 0, memcmp(&wanted->marks, &got->marks, sizeof got->marks) != 0);
     want("answers, or bytes past them, differ", 0, memcmp(wanted->answers, got->answers, sizeof got->answers) != 0);
 }
 
@@ -115,13 +152,13 @@ static void want_burst(const struct ghixramel *device, uint32_t refusal, uint32_
 }
 
 /* Room to the byte, and room for more; events to the last, and some more that are not asked. */
-static void every_size(void)
+static void every_size(void (*make)(uint32_t, uint64_t, const struct ghixramel_image *))
 {
     uint64_t random = SEED;
     for (uint32_t size = 0; size <= MOST; size++) {
         struct ghixramel_image image = random_image(&random);
         struct ghixramel device = device_from(&image);
-        make_list(GIVEN, SEED + size, &image);
+        make(GIVEN, SEED + size, &image);
         about("burst of events", size);
         want_burst(&device, GHIXRAMEL_DONE, size, size * EVENT, size, 2 * size);
         want_burst(&device, GHIXRAMEL_DONE, size, GIVEN * EVENT, size, 2 * size + 1 + random_below(&random, 2 * (GIVEN - MOST)));
@@ -193,13 +230,13 @@ static void refusals_at(const struct ghixramel *device, uint32_t place)
     done_at(device, place, (struct whole_event){GHIXRAMEL_LEVELS, (uint32_t)all_pins(), (uint32_t)(all_pins() >> 32)});
 }
 
-static void refused_in_the_middle(void)
+static void refused_in_the_middle(void (*make)(uint32_t, uint64_t, const struct ghixramel_image *))
 {
     uint64_t random = SEED;
     struct ghixramel_image image = random_image(&random);
     for (image.bus = GHIXRAMEL_IDLE; image.bus <= GHIXRAMEL_TELLING; image.bus++) {
         struct ghixramel device = device_from(&image);
-        make_list(SMALL, SEED + image.bus, &image);
+        make(SMALL, SEED + image.bus, &image);
         for (uint32_t place = 0; place < SMALL; place++)
             refusals_at(&device, place);
     }
@@ -294,32 +331,56 @@ static void broken_states(void)
     }
 }
 
-/* A whole list's answers and the state after it. */
+/* Either set with a pin that there is not, the state whole or broken too. */
+static void broken_marks(void)
+{
+    struct ghixramel_image image = power_on_image(2, 0xF00F00);
+    struct ghixramel whole = device_from(&image), broken = whole;
+    broken.words[0] = UINT64_MAX;
+    make_list(GIVEN, SEED, &image);
+    for (uint32_t bit = part->pins; bit < 64; bit++)
+        for (uint32_t sets = 1; sets <= 3; sets++) {
+            first_marks.set = whole_marks.set | (uint64_t)(sets & 1) << bit;
+            first_marks.healthy = whole_marks.healthy | (uint64_t)(sets >> 1) << bit;
+            about("burst on marks with a broken bit", bit);
+            for (uint32_t kind = 0; kind <= KINDS; kind++) {
+                want_three(&whole, (struct whole_event){kind, 0, 0});
+                want_three(&whole, (struct whole_event){kind, UINT32_MAX, 1});
+            }
+            want_three(&broken, (struct whole_event){GHIXRAMEL_START, 0, 0});
+        }
+    ways_of_eight(&whole);
+    ways_of_eight(&broken);
+    first_marks = whole_marks;
+}
+
+/* A whole list's answers, and state and marks after it. */
 struct outcome {
     struct ghixramel device;
+    struct ghixramel_marks marks;
     uint8_t answers[2 * CUT_EVENTS];
 };
 
 static struct outcome one_by_one(const struct ghixramel *device)
 {
-    struct outcome outcome = {.device = *device};
+    struct outcome outcome = {.device = *device, .marks = first_marks};
     for (uint32_t i = 0; i < CUT_EVENTS; i++)
-        want("refusal of a single step", GHIXRAMEL_DONE, guarded_step(&outcome.device, list[i].kind, whole_argument(list[i]), outcome.answers + 2 * i));
+        single_step(&outcome.device, &outcome.marks, list[i], outcome.answers + 2 * i);
     return outcome;
 }
 
 /* Each burst of one size, or by chance below a limit that is not 0; it is lent the events left, as many as can be. */
 static struct outcome in_bursts(const struct ghixramel *device, uint32_t size, uint32_t limit, uint64_t *random)
 {
-    struct outcome outcome = {.device = *device};
+    struct outcome outcome = {.device = *device, .marks = first_marks};
     for (uint32_t at = 0; at < CUT_EVENTS;) {
         uint32_t left = CUT_EVENTS - at, asked = limit ? random_below(random, limit) : size;
         uint64_t done[1] = {UNTOUCHED};
         if (asked > left)
             asked = left;
         want("refusal", GHIXRAMEL_DONE,
-             guarded_burst(&outcome.device, bytes + at * EVENT, (left < GIVEN ? left : GIVEN) * EVENT, asked, outcome.answers + 2 * at,
-                           2 * asked, done));
+             one_burst(&outcome.device, &outcome.marks, bytes + at * EVENT, (left < GIVEN ? left : GIVEN) * EVENT, asked,
+                       outcome.answers + 2 * at, 2 * asked, done));
         want("done", asked, done[0]);
         at += asked;
     }
@@ -329,6 +390,7 @@ static struct outcome in_bursts(const struct ghixramel *device, uint32_t size, u
 static void want_outcome(const struct outcome *wanted, struct outcome got)
 {
     want("state differs", 0, memcmp(&wanted->device, &got.device, sizeof got.device) != 0);
+    want("marks differ", 0, memcmp(&wanted->marks, &got.marks, sizeof got.marks) != 0);
     want("answers differ", 0, memcmp(wanted->answers, got.answers, sizeof got.answers) != 0);
 }
 
@@ -349,12 +411,24 @@ static void cuts(void (*make)(uint32_t, uint64_t, const struct ghixramel_image *
     }
 }
 
-void check_bursts(void)
+static void try_bursts(void (*make)(uint32_t, uint64_t, const struct ghixramel_image *))
 {
-    every_size();
-    refused_in_the_middle();
+    every_size(make);
+    refused_in_the_middle(make);
     eights();
     broken_states();
     cuts(make_list);
     cuts(make_inventory_list);
+}
+
+/* With marks the traffic is one that sets them, and often. */
+void check_bursts(void)
+{
+    first_marks = whole_marks;
+    with_marks = 0;
+    try_bursts(make_list);
+    with_marks = 1;
+    try_bursts(make_losses_list);
+    cuts(make_losses_list);
+    broken_marks();
 }

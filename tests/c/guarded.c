@@ -8,7 +8,9 @@
 
 /* An odd guard puts byte arrays at odd addresses, where a host may have them. */
 enum { GUARD = 17, FILL = 0xA5, MOST_STACK = 4096, MOST_COMPARE_STACK = 2048 };
-enum function { POWER_ON, STEP, DRIVES, INT, SHOW, FROM_IMAGE, TO_IMAGE, PLAN, BURST, COMPARE, FUNCTIONS };
+enum function {
+    POWER_ON, STEP, DRIVES, INT, SHOW, FROM_IMAGE, TO_IMAGE, PLAN, BURST, COMPARE, MARKS_NEW, MARKED_STEP, MARKED_BURST, SIGN_OFF, FUNCTIONS
+};
 
 struct results {
     uint8_t answer[2];
@@ -47,24 +49,30 @@ struct lent {
     uint8_t guard_1[GUARD];
     struct ghixramel elsewhere;
     uint8_t guard_2[GUARD];
-    uint64_t pins[4];
+    struct ghixramel_marks marks;
     uint8_t guard_3[GUARD];
-    uint8_t registers[128];
+    struct ghixramel_marks marks_elsewhere;
     uint8_t guard_4[GUARD];
-    uint64_t rest[8]; /* pointer, bus state, address choice, status, line, mode, number, place */
+    uint64_t pins[4];
     uint8_t guard_5[GUARD];
-    struct ghixramel_image image;
+    uint8_t registers[128];
     uint8_t guard_6[GUARD];
-    uint8_t start[MOST_LENT_BYTES];
+    uint64_t rest[8]; /* pointer, bus state, address choice, status, line, mode, number, place */
     uint8_t guard_7[GUARD];
-    uint8_t goal[MOST_LENT_BYTES];
+    struct ghixramel_image image;
     uint8_t guard_8[GUARD];
-    struct results results;
+    uint8_t start[MOST_LENT_BYTES];
     uint8_t guard_9[GUARD];
+    uint8_t goal[MOST_LENT_BYTES];
+    uint8_t guard_10[GUARD];
+    struct results results;
+    uint8_t guard_11[GUARD];
     struct burst_lent burst;
 };
 _Static_assert(offsetof(struct lent, device) % 16 == 8 && offsetof(struct lent, elsewhere) % 16 == 0,
                "a host owes a state the alignment of its words, and no more");
+_Static_assert(offsetof(struct lent, marks) % 16 == 8 && offsetof(struct lent, marks_elsewhere) % 16 == 0,
+               "a host owes marks the alignment of their sets, and no more");
 
 /* The texts of a comparison, each behind a guard and before another, wherever it ends. They may be very long, so no more of them
  * is written and looked at than there is. */
@@ -91,6 +99,12 @@ static struct numbers numbers;
 static uint32_t refusal;
 static size_t lent_bytes; /* from the start of what is lent, and looked at */
 static size_t most_used[FUNCTIONS];
+
+/* The marks beside it. */
+static struct ghixramel_marks *marks_at(void)
+{
+    return at == &lent.elsewhere ? &lent.marks_elsewhere : &lent.marks;
+}
 
 static void power_on(void)
 {
@@ -156,6 +170,27 @@ static void compare(void)
                                 lent.results.verdict, lent.results.part);
 }
 
+static void marks_new(void)
+{
+    refusal = part->calls.marks_new(marks_at(), numbers.large);
+}
+
+static void marked_step(void)
+{
+    refusal = part->calls.marked_step(at, marks_at(), numbers.small, numbers.large, lent.results.answer);
+}
+
+static void marked_burst(void)
+{
+    refusal = part->calls.marked_burst(at, marks_at(), lent.burst.events, numbers.event_bytes, numbers.asked, lent.burst.answers,
+                                       numbers.answer_bytes, lent.burst.done);
+}
+
+static void sign_off(void)
+{
+    refusal = part->calls.sign_off(at, marks_at(), numbers.small);
+}
+
 /* What a call may have written is laid over the copy from before. */
 static void allow(const void *written, size_t bytes)
 {
@@ -182,8 +217,14 @@ static void allow_plan(void)
     allow(lent.results.buffer, fits ? 2 * (size_t)lent.results.writes[0] : 0);
 }
 
+/* Of marks that were made: their healthy levels stay. */
+static void allow_set(void)
+{
+    allow(&marks_at()->set, sizeof marks_at()->set);
+}
+
 /* So is a number of events done that was not asked, or that is the number asked in a burst that ended early. */
-static void allow_burst(void)
+static void allow_burst(enum function function)
 {
     uint64_t done = lent.burst.done[0];
     int fits = refusal == GHIXRAMEL_DONE ? done == numbers.asked : done < numbers.asked;
@@ -193,6 +234,8 @@ static void allow_burst(void)
         return;
     allow(at, sizeof *at);
     allow(lent.burst.answers, 2 * (size_t)done);
+    if (function == MARKED_BURST)
+        allow_set();
 }
 
 /* So is a verdict that is none, or a part that is not in the answers. */
@@ -229,20 +272,37 @@ static void allow_results(enum function function)
         allow_image();
         break;
     case BURST:
-        allow_burst();
+    case MARKED_BURST:
+        allow_burst(function);
         break;
     case COMPARE:
         allow_comparison();
+        break;
+    case MARKS_NEW:
+        allow(marks_at(), sizeof *marks_at());
+        break;
+    case MARKED_STEP:
+        allow(at, sizeof *at);
+        allow(lent.results.answer, sizeof lent.results.answer);
+        allow_set();
+        break;
+    case SIGN_OFF:
+        allow_set();
         break;
     default:
         allow_plan();
     }
 }
 
+static int is_burst(enum function function)
+{
+    return function == BURST || function == MARKED_BURST;
+}
+
 /* A burst that ended early has its results; that it never began says 8. */
 static int has_results(enum function function)
 {
-    return refusal == GHIXRAMEL_DONE || (function == BURST && refusal != GHIXRAMEL_BAD_BURST);
+    return refusal == GHIXRAMEL_DONE || (is_burst(function) && refusal != GHIXRAMEL_BAD_BURST);
 }
 
 static void watch_one(enum function function, struct ghixramel *device, void (*call)(void))
@@ -273,12 +333,13 @@ static void watch(enum function function, void (*call)(void), void (*second_call
     watch_one(function, &lent.elsewhere, second_call);
     want("refusal of a second call", first_refusal, refusal);
     same_as_first("state differs on a second call", &first.device, &lent.elsewhere, sizeof first.device);
+    same_as_first("marks differ on a second call", &first.marks, &lent.marks_elsewhere, sizeof first.marks);
     same_as_first("pin sets differ on a second call", first.pins, lent.image.pins, sizeof first.pins);
     same_as_first("registers differ on a second call", first.registers, lent.image.registers, sizeof first.registers);
     same_as_first("the rest of the image differs on a second call", first.rest,
                   (const uint8_t *)&lent.image + offsetof(struct ghixramel_image, pointer), sizeof first.rest);
     same_as_first("results differ on a second call", &first.results, &lent.results, sizeof first.results);
-    if (function == BURST)
+    if (is_burst(function))
         same_as_first("what a burst was lent differs on a second call", &first.burst, &lent.burst, sizeof first.burst);
 }
 
@@ -304,6 +365,17 @@ static void lend_image(const struct ghixramel_image *image)
     memcpy(lent.registers, image->registers, sizeof lent.registers);
     memcpy(lent.rest, rest, sizeof lent.rest);
     memcpy(&lent.image, image, sizeof lent.image);
+}
+
+static void lend_marks(const struct ghixramel_marks *marks)
+{
+    memcpy(&lent.marks, marks, sizeof lent.marks);
+    memcpy(&lent.marks_elsewhere, marks, sizeof lent.marks_elsewhere);
+}
+
+static void give_marks(struct ghixramel_marks *marks)
+{
+    memcpy(marks, &lent.marks_elsewhere, sizeof lent.marks_elsewhere);
 }
 
 uint32_t guarded_power_on(struct ghixramel *device, uint32_t choice, uint64_t levels, uint64_t number)
@@ -408,19 +480,73 @@ uint32_t guarded_plan(const uint8_t *start, uint64_t start_bytes, const uint8_t 
     return refusal;
 }
 
+static void lend_burst(const struct ghixramel *device, const uint8_t *events, const uint8_t *answers, const uint64_t done[1],
+                       struct numbers with)
+{
+    lend(device, with);
+    memset(&lent.burst, FILL, sizeof lent.burst);
+    lent_bytes = sizeof lent;
+    memcpy(lent.burst.events, events, with.event_bytes);
+    memcpy(lent.burst.answers, answers, with.answer_bytes);
+    memcpy(lent.burst.done, done, sizeof lent.burst.done);
+}
+
+static void give_burst(struct ghixramel *device, uint8_t *answers, uint64_t done[1])
+{
+    memcpy(device, &lent.elsewhere, sizeof lent.elsewhere);
+    memcpy(answers, lent.burst.answers, numbers.answer_bytes);
+    memcpy(done, lent.burst.done, sizeof lent.burst.done);
+}
+
 uint32_t guarded_burst(struct ghixramel *device, const uint8_t *events, uint64_t event_bytes, uint64_t asked, uint8_t *answers,
                        uint64_t answer_bytes, uint64_t done[1])
 {
-    lend(device, (struct numbers){.event_bytes = event_bytes, .asked = asked, .answer_bytes = answer_bytes});
-    memset(&lent.burst, FILL, sizeof lent.burst);
-    lent_bytes = sizeof lent;
-    memcpy(lent.burst.events, events, event_bytes);
-    memcpy(lent.burst.answers, answers, answer_bytes);
-    memcpy(lent.burst.done, done, sizeof lent.burst.done);
+    lend_burst(device, events, answers, done,
+               (struct numbers){.event_bytes = event_bytes, .asked = asked, .answer_bytes = answer_bytes});
     watch(BURST, burst, burst);
+    give_burst(device, answers, done);
+    return refusal;
+}
+
+uint32_t guarded_marks_new(struct ghixramel_marks *marks, uint64_t healthy)
+{
+    fill(offsetof(struct lent, burst));
+    lend_marks(marks);
+    numbers = (struct numbers){.large = healthy};
+    watch(MARKS_NEW, marks_new, marks_new);
+    give_marks(marks);
+    return refusal;
+}
+
+uint32_t guarded_marked_step(struct ghixramel *device, struct ghixramel_marks *marks, uint32_t kind, uint64_t argument, uint8_t answer[2])
+{
+    lend(device, (struct numbers){.small = kind, .large = argument});
+    lend_marks(marks);
+    watch(MARKED_STEP, marked_step, marked_step);
     memcpy(device, &lent.elsewhere, sizeof lent.elsewhere);
-    memcpy(answers, lent.burst.answers, answer_bytes);
-    memcpy(done, lent.burst.done, sizeof lent.burst.done);
+    give_marks(marks);
+    memcpy(answer, lent.results.answer, sizeof lent.results.answer);
+    return refusal;
+}
+
+uint32_t guarded_marked_burst(struct ghixramel *device, struct ghixramel_marks *marks, const uint8_t *events, uint64_t event_bytes,
+                              uint64_t asked, uint8_t *answers, uint64_t answer_bytes, uint64_t done[1])
+{
+    lend_burst(device, events, answers, done,
+               (struct numbers){.event_bytes = event_bytes, .asked = asked, .answer_bytes = answer_bytes});
+    lend_marks(marks);
+    watch(MARKED_BURST, marked_burst, marked_burst);
+    give_burst(device, answers, done);
+    give_marks(marks);
+    return refusal;
+}
+
+uint32_t guarded_sign_off(const struct ghixramel *device, struct ghixramel_marks *marks, uint32_t pin)
+{
+    lend(device, (struct numbers){.small = pin});
+    lend_marks(marks);
+    watch(SIGN_OFF, sign_off, sign_off);
+    give_marks(marks);
     return refusal;
 }
 
@@ -461,8 +587,8 @@ uint32_t guarded_compare(const uint8_t *events, uint64_t event_bytes, const uint
 
 void check_stacks(void)
 {
-    static const char *const names[FUNCTIONS] = {"power_on",   "step",     "drives", "int",   "show",
-                                                 "from_image", "to_image", "plan",   "burst", "compare"};
+    static const char *const names[FUNCTIONS] = {"power_on", "step",  "drives",  "int",       "show",        "from_image",   "to_image",
+                                                 "plan",     "burst", "compare", "marks_new", "marked_step", "marked_burst", "sign_off"};
     for (int i = 0; i < FUNCTIONS; i++) {
         size_t most = i == COMPARE ? MOST_COMPARE_STACK : MOST_STACK;
         about(names[i], most_used[i]);

@@ -1,5 +1,5 @@
 /* The library's calls for the part that the checks are about (parts.h), each watched: made in memory with guard bytes around
- * every array and on a stack of its own, and once more from the same beginning, with the state or the texts elsewhere in memory
+ * every array and on a stack of its own, and once more from the same beginning, with state and marks or the texts elsewhere in memory
  * and the image as the struct where it was arrays. Checked each time: a refused call changed no byte, another only its results, and
  * a burst that ended early only those of the events that it counts; both calls gave the same, so nothing was kept in between
  * and the place did not matter. An image that was taken comes out as the same bytes; one that was given makes the same state
@@ -22,6 +22,12 @@ uint32_t guarded_to_image(const struct ghixramel *device, struct ghixramel_image
 
 uint32_t guarded_burst(struct ghixramel *device, const uint8_t *events, uint64_t event_bytes, uint64_t asked, uint8_t *answers,
                        uint64_t answer_bytes, uint64_t done[1]);
+
+uint32_t guarded_marks_new(struct ghixramel_marks *marks, uint64_t healthy);
+uint32_t guarded_marked_step(struct ghixramel *device, struct ghixramel_marks *marks, uint32_t kind, uint64_t argument, uint8_t answer[2]);
+uint32_t guarded_marked_burst(struct ghixramel *device, struct ghixramel_marks *marks, const uint8_t *events, uint64_t event_bytes,
+                              uint64_t asked, uint8_t *answers, uint64_t answer_bytes, uint64_t done[1]);
+uint32_t guarded_sign_off(const struct ghixramel *device, struct ghixramel_marks *marks, uint32_t pin);
 
 /* A device in the state of the image; of a broken image none, so that every call on it is refused with 3. */
 struct ghixramel guarded_device(const struct ghixramel_image *image);

@@ -5,12 +5,21 @@
 static uint32_t (*const power_on)(struct ghixramel *, uint32_t, uint64_t, uint64_t) = ghixramel_power_on;
 static uint32_t (*const plan)(const uint8_t *, uint64_t, const uint8_t *, uint64_t, uint8_t *, uint64_t, uint64_t *) = ghixramel_plan;
 static uint32_t (*const burst)(struct ghixramel *, const uint8_t *, uint64_t, uint64_t, uint8_t *, uint64_t, uint64_t *) = ghixramel_burst;
+static uint32_t (*const marks_new)(struct ghixramel_marks *, uint64_t) = ghixramel_marks_new;
+static uint32_t (*const marked_step)(struct ghixramel *, struct ghixramel_marks *, uint32_t, uint64_t, uint8_t *) = ghixramel_marked_step;
+static uint32_t (*const marked_burst)(struct ghixramel *, struct ghixramel_marks *, const uint8_t *, uint64_t, uint64_t, uint8_t *,
+                                      uint64_t, uint64_t *) = ghixramel_marked_burst;
 static uint32_t (*const compare)(const uint8_t *, uint64_t, const uint8_t *, uint64_t, uint8_t *, uint64_t *) = ghixramel_compare;
 
 static uint32_t (*const power_on34)(struct ghixramel *, uint32_t, uint64_t, uint64_t) = ghixramel34_power_on;
 static uint32_t (*const plan34)(const uint8_t *, uint64_t, const uint8_t *, uint64_t, uint8_t *, uint64_t, uint64_t *) = ghixramel34_plan;
 static uint32_t (*const burst34)(struct ghixramel *, const uint8_t *, uint64_t, uint64_t, uint8_t *, uint64_t, uint64_t *) =
     ghixramel34_burst;
+static uint32_t (*const marks_new34)(struct ghixramel_marks *, uint64_t) = ghixramel34_marks_new;
+static uint32_t (*const marked_step34)(struct ghixramel *, struct ghixramel_marks *, uint32_t, uint64_t, uint8_t *) =
+    ghixramel34_marked_step;
+static uint32_t (*const marked_burst34)(struct ghixramel *, struct ghixramel_marks *, const uint8_t *, uint64_t, uint64_t, uint8_t *,
+                                        uint64_t, uint64_t *) = ghixramel34_marked_burst;
 
 static int views(const struct ghixramel *device)
 {
@@ -30,6 +39,25 @@ static int done_in_a_burst(struct ghixramel *device)
     if (answers[0] != GHIXRAMEL_NOTHING || answers[2] != GHIXRAMEL_ACK)
         return 0;
     return burst(device, events, sizeof events, GHIXRAMEL_MOST_EVENTS + 1, answers, sizeof answers, done) == GHIXRAMEL_BAD_BURST;
+}
+
+/* The last pin is signed off while it is at its healthy level, and not before. */
+static int watched(struct ghixramel *device)
+{
+    struct ghixramel_marks marks = {0, 0};
+    uint8_t events[GHIXRAMEL_EVENT_BYTES] = {GHIXRAMEL_LEVELS, 0, 0, 0, 0, 0, 0x80}, answer[2] = {0};
+    uint64_t done[1] = {0};
+    if (marks_new(&marks, 0x1000000) != GHIXRAMEL_BAD_ARGUMENT || marks_new(&marks, 0x800000) != GHIXRAMEL_DONE)
+        return 0;
+    if (marks.set != 0xFFFFFF || marks.healthy != 0x800000)
+        return 0;
+    if (marked_step(device, &marks, GHIXRAMEL_LEVELS, 0, answer) != GHIXRAMEL_DONE || answer[0] != GHIXRAMEL_NOTHING)
+        return 0;
+    if (ghixramel_sign_off(device, &marks, 24) != GHIXRAMEL_BAD_ARGUMENT || ghixramel_sign_off(device, &marks, 23) != GHIXRAMEL_NOT_HEALTHY)
+        return 0;
+    if (marked_burst(device, &marks, events, sizeof events, 1, answer, sizeof answer, done) != GHIXRAMEL_DONE || done[0] != 1)
+        return 0;
+    return ghixramel_sign_off(device, &marks, 23) == GHIXRAMEL_DONE && marks.set == 0x7FFFFF;
 }
 
 static int carried(struct ghixramel *device)
@@ -96,6 +124,7 @@ static int compared(void)
 static int sister(void)
 {
     struct ghixramel device = {{0}};
+    struct ghixramel_marks marks = {0, 0};
     struct ghixramel_image image = {{0}, {0}, 0, 0, 0, 0, 0, 0, 0, 0};
     uint8_t answer[2] = {0}, asserted[1] = {0}, shown[1] = {0}, answers[2] = {0};
     uint8_t levels[GHIXRAMEL_EVENT_BYTES] = {GHIXRAMEL_LEVELS, 0, 0, 0, 0, 0, 0, 0, 2, 0, 0, 0};
@@ -125,6 +154,18 @@ static int sister(void)
         return 0;
     if (ghixramel34_step(&device, GHIXRAMEL_START, 0, answer) != GHIXRAMEL_DONE || ghixramel34_from_image(&device, &image) != GHIXRAMEL_DONE)
         return 0;
+    if (marks_new34(&marks, (uint64_t)1 << 34) != GHIXRAMEL_BAD_ARGUMENT || marks_new34(&marks, (uint64_t)1 << 33) != GHIXRAMEL_DONE)
+        return 0;
+    if (marked_step34(&device, &marks, GHIXRAMEL_LEVELS, 0, answer) != GHIXRAMEL_DONE || answer[0] != GHIXRAMEL_NOTHING)
+        return 0;
+    if (ghixramel34_sign_off(&device, &marks, 33) != GHIXRAMEL_NOT_HEALTHY)
+        return 0;
+    if (marked_burst34(&device, &marks, levels, sizeof levels, 1, answers, sizeof answers, done) != GHIXRAMEL_DONE || done[0] != 1)
+        return 0;
+    if (ghixramel34_sign_off(&device, &marks, 34) != GHIXRAMEL_BAD_ARGUMENT || ghixramel34_sign_off(&device, &marks, 33) != GHIXRAMEL_DONE)
+        return 0;
+    if (marks.set != ((uint64_t)1 << 33) - 1 || ghixramel_sign_off(&device, &marks, 0) != GHIXRAMEL_BAD_IMAGE)
+        return 0;
     if (plan34(ends, sizeof ends, ends, sizeof ends, buffer, sizeof buffer - 1, writes) != GHIXRAMEL_BUFFER_SMALL)
         return 0;
     return plan34(ends, sizeof ends, ends, sizeof ends, buffer, sizeof buffer, writes) == GHIXRAMEL_DONE && writes[0] == 0;
@@ -142,5 +183,5 @@ int main(void)
         return 1;
     if (ghixramel_step(&device, GHIXRAMEL_START, 0, answer) != GHIXRAMEL_DONE || answer[0] != GHIXRAMEL_NOTHING)
         return 1;
-    return !(views(&device) && done_in_a_burst(&device) && carried(&device) && planned() && compared() && sister());
+    return !(views(&device) && done_in_a_burst(&device) && watched(&device) && carried(&device) && planned() && compared() && sister());
 }

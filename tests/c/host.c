@@ -1,6 +1,6 @@
 /* The library as a host calls it: the rules' worked example and bench points, the Device ID, every refusal, images in and out, the planner
- * over the bus, bursts; the same for each part. Then comparisons, whose texts say the part. A line for each check that failed; the last
- * line is `host: N checks, M failed`. */
+ * over the bus, bursts, loss marks; the same for each part. Then comparisons, whose texts say the part. A line for each check that failed;
+ * the last line is `host: N checks, M failed`. */
 #include "checks.h"
 #include "guarded.h"
 #include "host_checks.h"
@@ -17,6 +17,7 @@ static void check_part(void)
     check_shows();
     check_plans();
     check_bursts();
+    check_marks();
 }
 
 int main(void)

@@ -11,6 +11,7 @@ void check_carried(void);
 void check_shows(void);
 void check_plans(void);
 void check_bursts(void);
+void check_marks(void);
 void check_compares(void);
 
 #endif

@@ -1,4 +1,4 @@
-/* An image as the thirteen fields of a line. */
+/* An image as the thirteen fields of a line, and marks as two. */
 #ifndef IMAGE_LINES_H
 #define IMAGE_LINES_H
 
@@ -6,8 +6,8 @@
 
 #include <ghixramel.h>
 
-/* What the thirteen fields and the tab after each take. */
-enum { IMAGE_BYTES = 369 };
+/* What the thirteen fields, and the two, and the tab after each take. */
+enum { IMAGE_BYTES = 369, MARKS_BYTES = 34 };
 
 static inline const uint8_t *image_fields(const uint8_t *at, struct ghixramel_image *image)
 {
@@ -19,12 +19,22 @@ static inline const uint8_t *image_fields(const uint8_t *at, struct ghixramel_im
     return field(field(at, 8, &image->number), 2, &image->place);
 }
 
+static inline const uint8_t *marks_fields(const uint8_t *at, struct ghixramel_marks *marks)
+{
+    return field(field(at, 16, &marks->set), 16, &marks->healthy);
+}
+
 static inline uint8_t *put_number(uint8_t *to, uint64_t number)
 {
     return put_pins(to, number, 16);
 }
 
-/* No tab after the last. */
+/* No tab after the last, here as below. */
+static inline uint8_t *put_marks(uint8_t *to, const struct ghixramel_marks *marks)
+{
+    return put_number(put_byte(put_number(to, marks->set), '\t'), marks->healthy);
+}
+
 static inline uint8_t *put_image(uint8_t *to, const struct ghixramel_image *image)
 {
     for (int i = 0; i < REGISTERS; i++)

@@ -49,7 +49,8 @@ static const struct group groups34[] = {
 #define CALLS(prefix)                                                                                                                \
     {                                                                                                                                \
         prefix##_power_on, prefix##_step, prefix##_burst, prefix##_drives, prefix##_int, prefix##_show, prefix##_pack,               \
-            prefix##_unpack, prefix##_to_image, prefix##_from_image, prefix##_plan                                                   \
+            prefix##_unpack, prefix##_to_image, prefix##_from_image, prefix##_marks_new, prefix##_marked_step,                       \
+            prefix##_marked_burst, prefix##_sign_off, prefix##_plan                                                                  \
     }
 
 const struct part parts[] = {

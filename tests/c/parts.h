@@ -22,6 +22,11 @@ struct calls {
     uint32_t (*unpack)(const uint64_t *, uint64_t *, uint8_t *, uint64_t *);
     uint32_t (*to_image)(const struct ghixramel *, struct ghixramel_image *);
     uint32_t (*from_image)(struct ghixramel *, const struct ghixramel_image *);
+    uint32_t (*marks_new)(struct ghixramel_marks *, uint64_t);
+    uint32_t (*marked_step)(struct ghixramel *, struct ghixramel_marks *, uint32_t, uint64_t, uint8_t *);
+    uint32_t (*marked_burst)(struct ghixramel *, struct ghixramel_marks *, const uint8_t *, uint64_t, uint64_t, uint8_t *, uint64_t,
+                             uint64_t *);
+    uint32_t (*sign_off)(const struct ghixramel *, struct ghixramel_marks *, uint32_t);
     uint32_t (*plan)(const uint8_t *, uint64_t, const uint8_t *, uint64_t, uint8_t *, uint64_t, uint64_t *);
 };
 

@@ -37,6 +37,20 @@ uint32_t to_image_refusal(const struct ghixramel *device)
     return guarded_to_image(device, &image);
 }
 
+uint32_t marked_step_refusal(const struct ghixramel *device, const struct ghixramel_marks *marks, uint32_t kind, uint64_t argument)
+{
+    struct ghixramel stepped = *device;
+    struct ghixramel_marks noted = *marks;
+    uint8_t answer[2] = {0};
+    return guarded_marked_step(&stepped, &noted, kind, argument, answer);
+}
+
+uint32_t sign_off_refusal(const struct ghixramel *device, const struct ghixramel_marks *marks, uint32_t pin)
+{
+    struct ghixramel_marks signed_off = *marks;
+    return guarded_sign_off(device, &signed_off, pin);
+}
+
 uint32_t burst_refusal(const struct ghixramel *device, uint32_t kind, uint32_t argument, uint32_t rest)
 {
     struct ghixramel stepped = *device;
@@ -44,4 +58,15 @@ uint32_t burst_refusal(const struct ghixramel *device, uint32_t kind, uint32_t a
     uint64_t done[1] = {0};
     put_event(event, kind, argument, rest);
     return guarded_burst(&stepped, event, sizeof event, 1, answer, sizeof answer, done);
+}
+
+uint32_t marked_burst_refusal(const struct ghixramel *device, const struct ghixramel_marks *marks, uint32_t kind, uint32_t argument,
+                              uint32_t rest)
+{
+    struct ghixramel stepped = *device;
+    struct ghixramel_marks noted = *marks;
+    uint8_t event[GHIXRAMEL_EVENT_BYTES], answer[2] = {0};
+    uint64_t done[1] = {0};
+    put_event(event, kind, argument, rest);
+    return guarded_marked_burst(&stepped, &noted, event, sizeof event, 1, answer, sizeof answer, done);
 }

@@ -1,9 +1,8 @@
 /* Views of the library for lines of an image's thirteen fields and a register number: the byte that a fetch would show, INT, the pins
  * driven low and high, as the program trace answers; in the place of what was refused its refusal. So the model judges them. */
 #include "guarded.h"
-#include "parts.h"
 #include "image_lines.h"
-#include "peer_text.h"
+#include "view_text.h"
 
 enum { LINE_BYTES = IMAGE_BYTES + 8, MOST_VIEWS_BYTES = 32 };
 
@@ -31,24 +30,6 @@ static uint8_t *put_byte_shown(uint8_t *to, const struct ghixramel *device, uint
     uint8_t shown[1] = {0};
     uint32_t refusal = guarded_show(device, number, shown);
     return refusal ? put_refused(to, refusal) : put_hex(to, shown[0], 2);
-}
-
-/* The line's level, subtracted, so that a result other than 0 and 1 is seen. */
-static uint8_t *put_int(uint8_t *to, const struct ghixramel *device)
-{
-    uint8_t asserted[1] = {0};
-    uint32_t refusal = guarded_int(device, asserted);
-    return refusal ? put_refused(to, refusal) : put_byte(to, (uint8_t)('1' - asserted[0]));
-}
-
-static uint8_t *put_drives(uint8_t *to, const struct ghixramel *device)
-{
-    uint64_t drives[2] = {0};
-    uint32_t refusal = guarded_drives(device, drives);
-    if (refusal)
-        return put_refused(to, refusal);
-    to = put_pins(to, drives[0], part->digits);
-    return put_pins(put_byte(to, '\t'), drives[1], part->digits);
 }
 
 static uint8_t *put_views(uint8_t *to, const struct asked *asked)

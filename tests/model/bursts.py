@@ -18,13 +18,18 @@ OLD_ANSWER, OLD_DONE = 0x3C, 0x77
 KINDS = {'-': 0, 'ack': 1, 'nak': 2}
 
 
-def read_line(line):
-    """(image, number asked, room, events' bytes), None if unreadable."""
+def read_burst(form, line):
+    """An image, the numbers after it, of which the room is the last, and the events' bytes; None if unreadable."""
     front, _, events = line.rpartition(b'\t')
-    read = read_fields(LINE, front)
-    if not read or not EVENTS.fullmatch(events) or len(events) > 2 * MOST_EVENT_BYTES or read[2] > MOST_ROOM:
+    read = read_fields(form, front)
+    if not read or not EVENTS.fullmatch(events) or len(events) > 2 * MOST_EVENT_BYTES or read[-1] > MOST_ROOM:
         return None
     return read + (bytes.fromhex(events.decode()),)
+
+
+def read_line(line):
+    """(image, number asked, room, events' bytes), None if unreadable."""
+    return read_burst(LINE, line)
 
 
 def answer_bytes(answer):
@@ -32,18 +37,22 @@ def answer_bytes(answer):
     return bytes((KINDS[answer], 0) if isinstance(answer, str) else (3, answer))
 
 
-def answer_to(which, read, device_class=Device):
-    """The answer line to a line read: refusal, events done, all of the room, the image after, a broken one refused."""
-    if read is None:
-        return UNREADABLE
-    image, asked, room, data = read
-    device = device_class(which, image)
+def burst_fields(device, asked, room, data):
+    """Of a burst on the device: refusal, events done, all of the room, the image after, a broken one refused."""
     number, done, answers = device.burst(data, asked, room)
     told = b''.join(map(answer_bytes, answers))
     after = 'refused\t3' if device.broken else image_fields(device.image())
-    return ('%d\t%016x\t%s\t%s\n' % (
+    return '%d\t%016x\t%s\t%s' % (
         number, OLD_DONE if done is None else done, (told + bytes([OLD_ANSWER]) * room)[:max(room, len(told))].hex(),
-        after)).encode()
+        after)
+
+
+def answer_to(which, read, device_class=Device):
+    """The answer line to a line read."""
+    if read is None:
+        return UNREADABLE
+    image, asked, room, data = read
+    return burst_fields(device_class(which, image), asked, room, data).encode() + b'\n'
 
 
 def run_lines(which, lines, device_class=Device):

@@ -1,10 +1,11 @@
 """A program under test against the model: python3 compare.py WHAT COMMAND... [--seed N] [--count N].
 
-WHAT is trace (logs of both parts in turns), trace24 or trace34 (of one alone, for programs that know no other), or
-probe, plan, views or burst for the 24-pin part and probe34, plan34, views34 or burst34 for its sister; or logs for the
-program compare, which is given two file names, or log-pairs for a program that reads as many events and answers as there
-are from its input: their lengths in decimal, a space between and a newline after, then the bytes of both. For each it
-prints a line of verdict, offset and length, a space between.
+WHAT is trace or watch (logs of both parts in turns), trace24, watch24, trace34 or watch34 (of one alone, for programs
+that know no other), or probe, plan, views, burst, marked-bursts, sign-offs or new-marks for the 24-pin part and probe34,
+plan34 and so on for its sister; marked_bursts.py, sign_offs.py and new_marks.py say what the lines of the last three are.
+Or logs for the program compare, which is given two file names, or log-pairs for a program that reads as many events and
+answers as there are from its input: their lengths in decimal, a space between and a newline after, then the bytes of both.
+For each it prints a line of verdict, offset and length, a space between.
 """
 
 import os
@@ -14,17 +15,25 @@ import sys
 import tempfile
 import threading
 import time
+from collections import namedtuple
 
 import bursts
 import generate
+import generate_marks
+import marked_bursts
+import new_marks
 import probe
+import sign_offs
+import trace
 import views
+import watch
 from device import PARTS
 from judge import Planner
 from logs import Comparison
-from trace import run_log, split_lines
+from trace import split_lines
 
-COUNTS = {'trace': 1000, 'probe': 20000, 'plan': 3000, 'views': 3000, 'burst': 3000, 'logs': 400, 'log-pairs': 4000}
+COUNTS = {'trace': 1000, 'watch': 1000, 'probe': 20000, 'plan': 3000, 'views': 3000, 'burst': 3000, 'marked-bursts': 3000,
+          'sign-offs': 3000, 'new-marks': 1000, 'logs': 400, 'log-pairs': 4000}
 ALONE = 20
 LONG_LOGS, LONG_LINES = 5, 4000
 # One pair in so many is read from pipes too, which are filled by so many bytes at most; no run takes so many seconds.
@@ -78,17 +87,27 @@ def report(what, given, wanted, got, header):
     print('  input kept in %s' % kept(given))
 
 
-def compare_trace(parts, command, rng, count):
+# A program that answers logs: what it answers, a line that makes a device with these levels, logs, long ones, some edges.
+Logs = namedtuple('Logs', 'run_log device_line log long_log edges')
+TRACE = Logs(trace.run_log, generate.device_line, generate.trace_log, generate.long_log, ())
+WATCH = Logs(watch.run_log, lambda which, choice, levels: generate_marks.watch_device_line(which, choice, levels, levels),
+             generate_marks.watch_log, generate_marks.long_watch,
+             (b'sign\t00', b'sign\t18\nsign\tff\n', b'device\t2\t000000\nsign\t00\n'))
+
+
+def compare_log_answers(program, parts, command, rng, count):
     """Some logs by themselves, the others one after another in one run; each begins with its own device.
 
     The parts take turns; where there are two, a log may have devices of both.
     """
-    def log(number, **options):
-        return generate.trace_log(rng, parts[number % len(parts)], others=len(parts) > 1, **options)
+    run_log = program.run_log
 
-    edges = [b'', b'\n', b'start', b'x' * 33]
-    edges += [generate.device_line(which, 2, 0).encode() for which in parts]
-    edges += [b'x' * 33 + b'\n%s\n' % generate.device_line(which, 0, PARTS[which].limit - 1).encode() for which in parts]
+    def log(number, **options):
+        return program.log(rng, parts[number % len(parts)], others=len(parts) > 1, **options)
+
+    edges = [b'', b'\n', b'start', b'x' * 33, *program.edges]
+    edges += [program.device_line(which, 2, 0).encode() for which in parts]
+    edges += [b'x' * 33 + b'\n%s\n' % program.device_line(which, 0, PARTS[which].limit - 1).encode() for which in parts]
     alone = edges + [log(number, alone=True) for number in range(len(edges), ALONE)]
     for number, one in enumerate(alone):
         wanted, got = run_log(one), run(command, one)
@@ -96,7 +115,7 @@ def compare_trace(parts, command, rng, count):
             report('log %d by itself' % number, one, wanted, got, 1)
             return False, len(alone)
     logs = [log(number) for number in range(count)]
-    logs += [generate.long_log(rng, parts[number % len(parts)], LONG_LINES) for number in range(LONG_LOGS)]
+    logs += [program.long_log(rng, parts[number % len(parts)], LONG_LINES) for number in range(LONG_LOGS)]
     joined = b''.join(logs)
     wanted, got = run_log(joined), run(command, joined)
     if wanted == got:
@@ -138,6 +157,21 @@ def compare_views(which, command, rng, count):
 def compare_burst(which, command, rng, count):
     lines = [generate.burst_line(rng, which) for _ in range(count)]
     return compare_lines('burst lines', lines, bursts.run_lines, which, command)
+
+
+def compare_marked_bursts(which, command, rng, count):
+    lines = [generate_marks.marked_burst_line(rng, which) for _ in range(count)]
+    return compare_lines('marked burst lines', lines, marked_bursts.run_lines, which, command)
+
+
+def compare_sign_offs(which, command, rng, count):
+    lines = [generate_marks.sign_off_line(rng, which) for _ in range(count)]
+    return compare_lines('sign-off lines', lines, sign_offs.run_lines, which, command)
+
+
+def compare_new_marks(which, command, rng, count):
+    lines = [generate_marks.new_marks_line(rng, which) for _ in range(count)]
+    return compare_lines('new marks lines', lines, new_marks.run_lines, which, command)
 
 
 def compare_plan(which, command, rng, count):
@@ -270,7 +304,10 @@ def options(words):
     return words, chosen['--seed'], chosen['--count']
 
 
-COMPARED = {'probe': compare_probe, 'plan': compare_plan, 'views': compare_views, 'burst': compare_burst}
+COMPARED = {'probe': compare_probe, 'plan': compare_plan, 'views': compare_views, 'burst': compare_burst,
+            'marked-bursts': compare_marked_bursts, 'sign-offs': compare_sign_offs, 'new-marks': compare_new_marks}
+# Those that have logs, of one part or of both.
+COMPARED_BY_LOGS = {'trace': TRACE, 'watch': WATCH}
 # Those that have both parts in one case.
 COMPARED_TOGETHER = {'logs': compare_logs, 'log-pairs': compare_log_pairs}
 
@@ -280,8 +317,9 @@ def comparison(what):
     if what in COMPARED_TOGETHER:
         return what, COMPARED_TOGETHER[what]
     name, which = (what[:-2], int(what[-2:])) if what[-2:] in ('24', '34') else (what, None)
-    if name == 'trace':
-        return name, lambda *given: compare_trace((which,) if which else tuple(PARTS), *given)
+    if name in COMPARED_BY_LOGS:
+        parts = (which,) if which else tuple(PARTS)
+        return name, lambda *given: compare_log_answers(COMPARED_BY_LOGS[name], parts, *given)
     return name, COMPARED.get(name) and (lambda *given: COMPARED[name](which or 24, *given))
 
 

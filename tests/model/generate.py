@@ -52,7 +52,7 @@ OUTPUT_WRITES = {'output': 4, 'configuration': 4, 'output port kind': 3, 'pin ou
                  'input latch': 1, 'interrupt mask': 1}
 OUTPUT_READS = {'input port': 4, 'input status': 4, 'interrupt status': 1, 'output': 1, 'output port kind': 1}
 
-# Writes, reads, and the weights of a log's acts in the order of `Log.go_on`.
+# Writes, reads, and the weights of a log's acts in the order of `Log.acts`.
 TEMPERS = (
     (MIXED_WRITES, MIXED_READS, (30, 5, 0.3, 16, 20, 10, 4, 1, 6, 3, 5, 3, 1, 0.3)),
     (MIXED_WRITES, MIXED_READS, (30, 5, 0.3, 16, 20, 10, 4, 1, 6, 3, 5, 3, 1, 0.3)),
@@ -84,11 +84,13 @@ class Log:
     Its later devices are of its own part or, where others may come, of any.
     """
 
+    tempers = TEMPERS
+
     def __init__(self, rng, which, others):
         self.rng, self.others = rng, others
         self.lines = []
         self.choice, self.levels_now = 0, 0
-        self.writes, self.reads, self.weights = rng.choice(TEMPERS)
+        self.writes, self.reads, self.weights = rng.choice(self.tempers)
         self.over_map = rng.choice(OVER_MAP_SHARES)
         self.be(which)
 
@@ -125,11 +127,14 @@ class Log:
     def device(self):
         self.choice = self.rng.randrange(4)
         self.levels_now = self.rng.choice((0, self.part.limit - 1, self.rng.randrange(self.part.limit)))
-        self.lines.append(device_line(self.which, self.choice, self.levels_now))
+        self.lines.append(self.device_line())
         # Before any command: where the pointer is, and how it steps.
         if self.rng.random() < 0.1:
             self.start(1)
             self.lines += ['fetch\t1'] * (self.part.ports + 1)
+
+    def device_line(self):
+        return device_line(self.which, self.choice, self.levels_now)
 
     def later_device(self):
         """A new device, perhaps of the other part: levels in the digits of the one before are unreadable from then on."""
@@ -424,6 +429,14 @@ class Log:
             'pins\t' + '0' * rng.randint(29, 400), 'start' * rng.randint(7, 100),
             'y' * rng.choice((64, 1023, 1024, 4095, 4096, 5000)))))
 
+    def before_device(self):
+        """What has no device that it could be about."""
+        self.stray()
+        self.garbage()
+        self.levels()
+        self.write()
+        self.lines.append('reset')
+
     def setting_up(self):
         """Most logs begin with the pins dwelt on unmasked, else INT stays quiet for long."""
         for pin in self.focus:
@@ -436,11 +449,14 @@ class Log:
                 self.command(edge)
                 self.event('byte\t%02x' % self.value(edge))
 
-    def go_on(self, length, weights):
-        """Acts by chance until the log has so many lines; what an act left in the status is looked at now and then."""
-        acts = (self.write, self.hide_and_show, self.turn_around, self.read, self.levels, self.read_back, self.walk,
+    def acts(self):
+        return (self.write, self.hide_and_show, self.turn_around, self.read, self.levels, self.read_back, self.walk,
                 self.inventory, self.general_call, self.stray, self.other_address, self.garbage, self.hard_reset,
                 self.later_device)
+
+    def go_on(self, length, weights):
+        """Acts by chance until the log has so many lines; what an act left in the status is looked at now and then."""
+        acts = self.acts()
         while len(self.lines) < length:
             self.rng.choices(acts, weights)[0]()
             if self.rng.random() < 0.3:
@@ -481,18 +497,14 @@ DIGITS = {
 }
 
 
-def trace_log(rng, which, alone=False, others=True):
+def trace_log(rng, which, alone=False, others=True, kind=Log):
     """A log of some 60 to 350 lines; alone, it may begin before a device, be empty, or lack its last newline."""
-    log = Log(rng, which, others)
+    log = kind(rng, which, others)
     if alone:
         if rng.random() < 0.1:
             return b''
         if rng.random() < 0.5:
-            log.stray()
-            log.garbage()
-            log.levels()
-            log.write()
-            log.lines.append('reset')
+            log.before_device()
     log.device()
     if rng.random() < 0.8:
         log.setting_up()
@@ -502,9 +514,9 @@ def trace_log(rng, which, alone=False, others=True):
     return ('\n'.join(log.lines) + end).encode('latin-1')
 
 
-def long_log(rng, which, length):
+def long_log(rng, which, length, kind=Log):
     """A log of so many lines or a few more, all of one device from its power-on."""
-    log = Log(rng, which, False)
+    log = kind(rng, which, False)
     log.device()
     log.go_on(length, log.weights[:-1] + (0,))
     return ('\n'.join(log.lines) + '\n').encode('latin-1')
@@ -681,8 +693,8 @@ def argument_limits(which):
     return {BYTE: 256, FETCH: 2, LEVELS: PARTS[which].limit}
 
 
-def image_line(rng, which):
-    """A probe line with its newline: mostly a well-formed image and a fitting event."""
+def busy_image(rng, which):
+    """A well-formed image that is mostly about to write or to be read, mostly where marks come and go."""
     named = PARTS[which].named
     bus = rng.choices(range(TELLING + 1), (1, 2, 2, 8, 5, 1, 2, 1, 1, 1, 2, 2))[0]
     number = rng.choice(KNOWN[which])
@@ -694,8 +706,13 @@ def image_line(rng, which):
         number = rng.randint(group.first, group.last)
     if rng.random() < 0.15:
         number = rng.choice((rng.choice(PARTS[which].groups).last, KNOWN[which][-1]))
-    image = sound_image(rng, which, number, bus)
-    kind, arg = meant_event(rng, which, bus, image.choice)
+    return sound_image(rng, which, number, bus)
+
+
+def image_line(rng, which):
+    """A probe line with its newline: mostly a well-formed image and a fitting event."""
+    image = busy_image(rng, which)
+    kind, arg = meant_event(rng, which, image.bus, image.choice)
     if rng.random() < 0.16:
         image = broken_image(rng, which, image)
     if rng.random() < 0.06:
@@ -743,12 +760,12 @@ def event_bytes(kind, arg, rest):
 WORD = 0xFFFFFFFF
 
 
-def meant_events(rng, which, image, count):
+def meant_events(rng, which, image, count, meant):
     """Events that mean something, each in the bus state that those before it lead to."""
     device = Device(which, image)
     events = []
     for _ in range(count):
-        kind, arg = meant_event(rng, which, device.bus, device.choice)
+        kind, arg = meant(rng, which, device.bus, device.choice)
         events.append((kind, arg & WORD, arg >> 32 if device.part.wide else 0))
         device.step(kind, arg)
     return events
@@ -788,12 +805,17 @@ def burst_of_eight(rng, data, asked, room):
     return data or bytes(EVENT_BYTES), asked, rng.choice((2 * asked - 1, asked, 0, rng.randrange(2 * asked)))
 
 
-def burst_line(rng, which):
-    """A burst line with its newline: half of the bursts are done whole, the others refused at some event or with 8."""
-    image = sound_image(rng, which, rng.choice(KNOWN[which]), rng.randrange(TELLING + 1))
+def any_image(rng, which):
+    """A well-formed image with any pointer in any bus state."""
+    return sound_image(rng, which, rng.choice(KNOWN[which]), rng.randrange(TELLING + 1))
+
+
+def burst_given(rng, which, image_of=any_image, meant=meant_event):
+    """(image, number asked, room, events' bytes): half are done whole, the others refused at some event or with 8."""
+    image = image_of(rng, which)
     count = rng.choices(BURST_SIZES, BURST_WEIGHTS)[0]
     count = rng.choice(LONGEST_BURSTS) if rng.random() < 0.02 else rng.randint(count // 2, count)
-    events = meant_events(rng, which, image, count)
+    events = meant_events(rng, which, image, count, meant)
     if events and rng.random() < 0.4:
         place = rng.choice((0, count - 1, rng.randrange(count)))
         events[place] = refused_event(rng, which, events[place])
@@ -808,6 +830,12 @@ def burst_line(rng, which):
         image = broken_image(rng, which, image)
         if rng.random() < 0.3:
             asked = 0
+    return image, asked, room, data
+
+
+def burst_line(rng, which):
+    """A burst line with its newline."""
+    image, asked, room, data = burst_given(rng, which)
     line = ('%s\t%016x\t%04x\t%s' % (image_fields(image), asked, room, data.hex())).encode()
     if rng.random() < 0.03:
         line = spoiled_line(rng, line)

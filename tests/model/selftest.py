@@ -7,14 +7,20 @@ from pathlib import Path
 
 import bursts
 import generate
+import generate_marks
 import judge
 import logs
+import marked_bursts
+import new_marks
 import probe
+import sign_offs
 import trace
 import views
+import watch
 from device import (ARMED, ASKING, ASSERTED, BYTE, CALL, CHOSEN, DEAF, FETCH, FILLING, IDLE, IN_GROUP, LEVELS, NAMED, OPENED,
                     OVER_MAP, PARTS, QUIET, REOPENED, RESET, SENDING, START, STOP, TELLING, Device, kept_image, pin_set)
 from logs import AGREES, DEPARTS, ENDS_EARLY, LEFT_OVER
+from marks import Marked
 
 EXAMPLES = Path(__file__).resolve().parents[2] / 'examples'
 
@@ -1671,6 +1677,509 @@ def test_pairs_cross_buffers():
         for end in range(border - 2, border + 6):
             assert len(generate.bordered(end)) == len(trace.run_log(generate.bordered(end))) == end
     assert generate.log_pair(random.Random(15), 0) == generate.log_pair(random.Random(15), 0)
+
+
+# Marks.
+
+# The loss of the README, and how it is signed off: line, answer, INT, marks. An empty answer is `-`, a number is a refusal;
+# nothing is driven.
+UNMASKED = (('start', ''), ('byte\t44', 'ack'), ('byte\t54', 'ack'), ('byte\tfe', 'ack'), ('stop', ''))
+LOSS = (
+    ('device\t2\t000000\t000000', '', 1, 'ffffff'),
+    ('sign\t00', '', 1, 'fffffe'),
+    *((line, told, 1, 'fffffe') for line, told in UNMASKED),
+    ('pins\t000001', '', 0, 'ffffff'),
+    ('sign\t00', 13, 0, ''),
+    ('start', '', 0, 'ffffff'), ('byte\t00', 'ack', 0, 'ffffff'), ('byte\t06', 'ack', 0, 'ffffff'),
+    # The reset: INT quiet, the fibre open, the mark set.
+    ('stop', '', 1, 'ffffff'),
+    ('sign\t00', 13, 1, ''),
+    *((line, told, 1, 'ffffff') for line, told in UNMASKED),
+    ('sign\t00', 13, 1, ''),
+    # The open level is the reference now, so that closing rings.
+    ('pins\t000000', '', 0, 'ffffff'),
+    ('sign\t00', 13, 0, ''),
+    ('start', '', 0, 'ffffff'), ('byte\t44', 'ack', 0, 'ffffff'), ('byte\t00', 'ack', 0, 'ffffff'),
+    ('start', '', 0, 'ffffff'), ('byte\t45', 'ack', 0, 'ffffff'), ('fetch\t0', '00', 1, 'ffffff'),
+    ('stop', '', 1, 'ffffff'),
+    ('sign\t00', '', 1, 'fffffe'),
+    ('sign\t00', '', 1, 'fffffe'),
+    ('sign\t18', 2, 1, ''),
+)
+
+
+def told_line(told, line, marks):
+    return 'refused\t%d' % told if isinstance(told, int) else '%s\t%d\t000000\t000000\t%s' % (told or '-', line, marks)
+
+
+def test_worked_loss():
+    log = '\n'.join(line for line, *_ in LOSS)
+    wanted = '\n'.join(['answer\tint\tlow\thigh\tmarks'] + [told_line(*told) for _, *told in LOSS]) + '\n'
+    assert watch.run_log(log.encode()) == watch.run_log(log.encode() + b'\n') == wanted.encode()
+
+
+def test_shipped_watches():
+    logs = sorted(EXAMPLES.glob('*.watch'))
+    assert logs
+    for log in logs:
+        assert watch.run_log(log.read_bytes()) == log.with_suffix('.answers').read_bytes(), log.name
+
+
+def test_watch_reader():
+    ok, signed, no = b'-\t1\t000000\t000000\tffffff\n', b'-\t1\t000000\t000000\tfffffe\n', b'refused\t7\n'
+    device = b'device\t0\t000000\t000000\n'
+    for log, lines in (
+            (b'', b''),
+            (b'\n', no),
+            (b'sign\t00', no),
+            (b'sign\tff\nstart\n', no + no),
+            (b'device\t0\t000000\nstart\nsign\t00\n', no * 3),
+            (b'device\t4\t000000\t000000\nstart\n', no + no),
+            (device + b'sign\t00\ndevice\t0\t000000\nstart', ok + signed + no + signed),
+            (device + b'sign\t00\n' + device, ok + signed + ok),
+            # A healthy set of its own, and it lasts as long as its device.
+            (device + b'device\t1\t000001\t000001\nsign\t00\nsign\t01', ok + ok + signed + signed.replace(b'e', b'c')),
+            (device + b'device\t4\t000000\t000001\nsign\t00', ok + no + signed),
+            (b'device\t0\t000000\t000001\nsign\t00\nsign\t17\n', ok + b'refused\t13\n' + ok.replace(b'\tf', b'\t7')),
+            (device + b'sign\t17\nsign\t18\nsign\t21\nsign\tff', ok + ok.replace(b'\tf', b'\t7') + b'refused\t2\n' * 3),
+            (device + b'x' * 33 + b'\n' + b'sign\t00' * 9000 + b'\nstop', ok + no * 2 + ok),
+            (device + b'fetch\t0\nsign\t00\r\nreset\n', ok + b'ff' + ok[1:] + no + ok)):
+        assert watch.run_log(log) == watch.HEADER + lines, log
+    for line in generate_marks.NO_SIGNS + generate_marks.NO_WATCHES:
+        for before in (b'', device, b'device34\t0\t000000000\t000000000\n'):
+            log = before + line.encode('latin-1') + b'\n'
+            assert watch.run_log(log).endswith(b'\n' + no) and watch.run_log(log).count(b'\n') == log.count(b'\n') + 1, line
+
+
+def test_watch_reader_of_both_parts():
+    six, nine, no = b'-\t1\t000000\t000000\tffffff\n', b'-\t1\t000000000\t000000000\t3ffffffff\n', b'refused\t7\n'
+    device, sister = b'device\t0\t000000\t000000\n', b'device34\t0\t000000000\t000000000\n'
+    for log, lines in (
+            (sister + b'pins\t000000000\npins\t000000\n', nine + nine + no),
+            (b'device34\t3\t3ffffffff\t3ffffffff\nreset\n', nine + nine),
+            (b'device34\t0\t000000000\t400000000\nstart\n', no + no),
+            (b'device34\t0\t400000000\t000000000\nstart\n', no + no),
+            (b'device34\t0\t000000\t000000\ndevice34\t0\t000000000\t000000\ndevice34\t0\t000000\t000000000\n', no * 3),
+            (b'device\t0\t000000000\t000000000\ndevice\t0\t000000\t000000000\ndevice\t0\t000000000\t000000\n', no * 3),
+            (sister + b'sign\t21\nsign\t22\n', nine + nine.replace(b'3f', b'1f') + b'refused\t2\n'),
+            (b'device34\t0\t000000000\t200000000\nsign\t21\nsign\t20\n',
+             nine + b'refused\t13\n' + nine.replace(b'3f', b'2f')),
+            (sister + device + b'sign\t21\nsign\t18\n', nine + six + b'refused\t2\n' * 2),
+            (device + sister + b'sign\t18\npins\t000000\n', six + nine + nine.replace(b'3ff', b'3fe') + no),
+            # A device line that is unreadable leaves the device, its marks and its digits.
+            (sister + b'sign\t21\ndevice\t4\t000000\t000000\nstop\n',
+             nine + nine.replace(b'3f', b'1f') + no + nine.replace(b'3f', b'1f'))):
+        assert watch.run_log(log) == watch.HEADER + lines, log
+
+
+class MarkedBench(Bench):
+    """A bench with marks, of which a port is looked at."""
+
+    def __init__(self, which=24, port=0, levels=0, healthy=0, choice=0):
+        super().__init__(which, port, levels, choice)
+        self.device = Marked.make(which, choice, levels << 8 * port, 0, healthy << 8 * port)
+
+    def sign(self, pin):
+        return self.device.sign_off(8 * self.port + pin)
+
+    def marks(self):
+        """Of pins 0 and 1, which every port has."""
+        return self.device.marks >> 8 * self.port & 3
+
+    def signed(self, *acts):
+        """Pins 0 and 1 signed off, and the acts; the marks then."""
+        assert self.sign(0) == self.sign(1) == 0 and self.marks() == 0
+        for act in acts:
+            act(self)
+        return self.marks()
+
+    def general_call(self):
+        for kind, arg in ((START, 0), (BYTE, 0x00), (BYTE, 0x06), (STOP, 0)):
+            self.device.step(kind, arg)
+
+
+def written(number, *values):
+    return lambda bench: bench.write(number, *values)
+
+
+def moved(levels):
+    return lambda bench: bench.pins(levels)
+
+
+def stepped(kind, arg=0):
+    return lambda bench: bench.device.step(kind, arg)
+
+
+def fetched(number):
+    return lambda bench: bench.read(number)
+
+
+UNMASK, UNMASK_BOTH = written(0x54, 0xFE), written(0x54, 0xFC)
+
+
+def test_new_marks():
+    for which, most in ((24, 0xFFFFFF), (34, 0x3FFFFFFFF)):
+        for healthy in (0, 1, 0x123456, most):
+            assert Marked.new_marks(which, healthy) == (most, healthy)
+            device = Marked.make(which, 3, 0x80, 0x123456, healthy)
+            assert device.image() == Device.make(which, 3, 0x80, 0x123456).image()
+            assert (device.marks, device.healthy) == (most, healthy)
+        for healthy in (most + 1, most + 2, 1 << 40, 1 << 63, (1 << 64) - 1):
+            assert Marked.new_marks(which, healthy) == Marked.make(which, 0, 0, 0, healthy) == ('refused', 2)
+        assert Marked.make(which, 4, 0, 0, 0) == Marked.make(which, 0, most + 1, 0, 0) == ('refused', 2)
+        for line, answer in ((b'%016x' % most, b'0\t%016x\t%016x\n' % (most, most)),
+                             (b'%016x' % 5, b'0\t%016x\t0000000000000005\n' % most),
+                             (b'%016x' % (most + 1), b'2\t3c3c3c3c3c3c3c3c\t7777777777777777\n'),
+                             (b'ffffffffffffffff', b'2\t3c3c3c3c3c3c3c3c\t7777777777777777\n'),
+                             (b'', b'')):
+            assert new_marks.run_lines(which, line) == answer, line
+        for line in (b'\n', b'0' * 15, b'0' * 17, b'000000000000000A', b'0' * 16 + b'\t', b'0' * 16 + b'\r'):
+            assert new_marks.run_lines(which, line) == b'refused\t7\n', line
+
+
+@everywhere
+def test_what_sets_a_mark(which, port):
+    """A status bit that rises, in whatever way; two at once are two marks, one more while INT is asserted is one more."""
+    for wanted, *acts in (
+            (1, UNMASK, moved(1)), (3, UNMASK_BOTH, moved(3)), (3, UNMASK_BOTH, moved(1), moved(3)),
+            (2, UNMASK_BOTH, moved(2)), (1, moved(1), UNMASK), (0, moved(3)), (1, UNMASK, moved(3)),
+            # Latched, and by its edge field; the other edge is none.
+            (1, UNMASK, written(0x48, 0x01), moved(1)), (1, UNMASK, written(0x60, 0x01), moved(1)),
+            (0, UNMASK, written(0x60, 0x02), moved(1)), (1, UNMASK, written(0x60, 0x02), moved(1), moved(0)),
+            # A field taken away shows the difference, and a pin that turns to input.
+            (1, UNMASK, written(0x60, 0x02), moved(1), written(0x60, 0x00)),
+            (0, UNMASK, written(0x0C, 0xFE), moved(1)),
+            (1, UNMASK, written(0x0C, 0xFE), moved(1), written(0x0C, 0xFF)),
+            # At its healthy level again it rings as well, once the reset has taken the other for the reference.
+            (1, moved(1), stepped(RESET), UNMASK, moved(0)),
+            # Neither levels that stay, nor polarity, nor a reset that finds nothing, nor a STOP.
+            (0, UNMASK, moved(0)), (0, UNMASK_BOTH, written(0x08, 0x03)), (0, moved(3), stepped(RESET)),
+            (0, moved(3), MarkedBench.general_call), (0, UNMASK, stepped(STOP), stepped(RESET)),
+            (0, UNMASK, written(0x0C, 0xFE), moved(1), stepped(RESET))):
+        assert MarkedBench(which, port).signed(*acts) == wanted, (which, port, wanted)
+
+
+@everywhere
+def test_nothing_but_a_sign_off_clears_a_mark(which, port):
+    """Each cause that ends a status bit, both resets, and what is no cause."""
+    for latch, act in ((0, fetched(0x00)), (0, written(0x68, 0x01)), (0, written(0x54, 0xFF)), (0, written(0x60, 0x00)),
+                       (0, written(0x60, 0x03)), (1, written(0x48, 0x00)), (0, written(0x0C, 0xFE)), (0, stepped(RESET)),
+                       (0, MarkedBench.general_call), (0, moved(0)), (1, moved(0)), (0, stepped(START)), (0, stepped(STOP)),
+                       (0, fetched(0x58)), (0, fetched(0x6C)), (0, written(0x04, 0x00)), (1, written(0x48, 0x01))):
+        bench = MarkedBench(which, port)
+        assert bench.signed(UNMASK, written(0x48, latch), moved(1), act) == 1, (which, port)
+        # Signed off or not: only a pin at rest is.
+        at_rest = bench.image().status == 0 and bench.image().level == 0
+        assert bench.sign(0) == (0 if at_rest else 13) and bench.marks() == (0 if at_rest else 1)
+        # Another one's sign-off is its own affair.
+        assert bench.sign(1) == 0 and bench.marks() == (0 if at_rest else 1)
+
+
+def lost(which, pin, marks, bus, healthy=0):
+    """A device with one status bit, of a pin that is an unmasked input away from its reference."""
+    part, image = PARTS[which], Device.make(which, 2, 1 << pin).image()
+    registers = list(image.registers)
+    registers[part.mask + pin // 8] &= ~(1 << pin % 8)
+    return Marked(which, kept_image(which, image._replace(registers=tuple(registers), reference=0, bus=bus)), marks, healthy)
+
+
+def test_resets_note_what_they_find():
+    """A status bit without its mark is in images alone; of all events only a reset sets that mark."""
+    for which in PARTS:
+        for pin in (0, 7, 8, 23, which - 1):
+            for other in (0, 1 << (pin + 3) % which):
+                for bus in range(TELLING + 1):
+                    for kind, arg in ((START, 0), (STOP, 0), (BYTE, 0x06), (BYTE, 0x00), (FETCH, 1), (FETCH, 0),
+                                      (LEVELS, 0), (LEVELS, 1 << pin), (RESET, 0)):
+                        device = lost(which, pin, other, bus)
+                        assert device.image().status == 1 << pin
+                        device.step(kind, arg)
+                        found = kind == RESET or (kind, bus) == (STOP, ARMED)
+                        assert device.marks == (other | 1 << pin if found else other), (which, pin, bus, kind)
+
+
+SIGNED_OFF, UNHEALTHY = 0, 13
+
+
+@everywhere
+def test_sign_offs(which, port):
+    """Pin 0, healthy at 0 or at 1; pin 1 as it comes."""
+    for healthy in (0, 1):
+        moved_away, moved_back = moved(1 - healthy), moved(healthy)
+        for wanted, *acts in (
+                (SIGNED_OFF,), (UNHEALTHY, moved_away), (SIGNED_OFF, moved_away, moved_back),
+                (UNHEALTHY, UNMASK, moved_away), (SIGNED_OFF, UNMASK, moved_away, moved_back),
+                (SIGNED_OFF, moved(healthy | 2)), (UNHEALTHY, moved(1 - healthy | 2)),
+                # A held or marked pin asks for attention at its healthy level too, as long as nothing settles it.
+                (UNHEALTHY, UNMASK, written(0x48, 0x01), moved_away, moved_back),
+                (SIGNED_OFF, UNMASK, written(0x48, 0x01), moved_away, moved_back, fetched(0x00)),
+                (SIGNED_OFF, UNMASK, written(0x48, 0x01), moved_away, moved_back, written(0x68, 0x01)),
+                (UNHEALTHY, UNMASK, written(0x60, 0x03), moved_away, moved_back),
+                (SIGNED_OFF, written(0x48, 0x01), moved_away, moved_back),
+                # Settled away from it, it is not healthy; back again it rings, and masked it does not.
+                (UNHEALTHY, UNMASK, moved_away, fetched(0x00)),
+                (UNHEALTHY, UNMASK, moved_away, fetched(0x00), moved_back),
+                (SIGNED_OFF, UNMASK, moved_away, fetched(0x00), moved_back, fetched(0x00)),
+                (SIGNED_OFF, UNMASK, moved_away, fetched(0x00), moved_back, written(0x54, 0xFF)),
+                (UNHEALTHY, UNMASK, moved_away, stepped(RESET)),
+                (SIGNED_OFF, UNMASK, moved_away, stepped(RESET), moved_back),
+                (UNHEALTHY, UNMASK, moved_away, MarkedBench.general_call),
+                # Polarity is not asked, nor the direction, nor what an output drives or shows.
+                (SIGNED_OFF, written(0x08, 0x01)), (UNHEALTHY, written(0x08, 0x01), moved_away),
+                (SIGNED_OFF, UNMASK, written(0x08, 0x03)), (SIGNED_OFF, written(0x0C, 0xFE)),
+                (UNHEALTHY, written(0x0C, 0xFE), moved_away),
+                (SIGNED_OFF, UNMASK, moved_away, written(0x0C, 0xFE), moved_back),
+                (SIGNED_OFF, written(0x04, 0xFE), written(0x0C, 0xFE)),
+                (SIGNED_OFF, written(0x70, 0x01), written(0x0C, 0xFE)),
+                (UNHEALTHY, UNMASK, written(0x0C, 0xFE), moved_away, written(0x0C, 0xFF))):
+            for signed_before in (False, True):
+                bench = MarkedBench(which, port, healthy, healthy | 2)
+                if signed_before:
+                    # A pin that nothing has happened to since is signed off, and judged all the same.
+                    assert bench.sign(0) == 0
+                for act in acts:
+                    act(bench)
+                before, marks = bench.image(), bench.device.marks
+                assert bench.sign(0) == wanted, (which, port, healthy, wanted)
+                assert bench.device.marks == (marks & ~(1 << 8 * port) if wanted == SIGNED_OFF else marks)
+                assert bench.image() == before and bench.device.healthy == (healthy | 2) << 8 * port
+
+
+def test_sign_off_refusals():
+    """3, then 2, then 13; a refused one changes nothing."""
+    for which, part in PARTS.items():
+        beyond = (which, which + 1, which + 32, 40, 63, 64, 255, 256, 1 << 31, 0xFFFFFFFF)
+        for marks, healthy, broken in ((0, 0, False), (part.limit - 1, part.limit - 1, False), (part.limit, 0, True),
+                                       (0, part.limit, True), (1 << 63, 0, True), (5, 1 << 40 | 1, True),
+                                       (part.limit, part.limit, True)):
+            for bus in (IDLE, TELLING, TELLING + 1):
+                for pin in (0, 1, 8, which - 1) + beyond:
+                    # Pin 1 alone has a status bit, and its level is 1.
+                    device = lost(which, 1, marks, bus, healthy)
+                    wanted = (3 if broken or bus > TELLING else 2 if pin >= which else
+                              13 if pin == 1 or healthy != 0 else 0)
+                    assert device.sign_off(pin) == wanted, (which, marks, healthy, bus, pin)
+                    assert device.marks == (marks & ~(1 << pin) if wanted == 0 else marks) and device.healthy == healthy
+
+
+def test_broken_marks():
+    """Either set with a pin past the last; before kind and argument, and the device stays."""
+    for which, part in PARTS.items():
+        sound = Device.make(which, 2, 0).image()
+        events = (START, 0), (RESET, 0), (6, 0), (BYTE, 256), (LEVELS, part.limit), (99, 1 << 40)
+        for marks, healthy in ((part.limit, 0), (0, part.limit), (part.limit, part.limit), (1 << 63, 5),
+                               (5, 1 << 32 | part.limit), ((1 << 64) - 1, 0)):
+            for image, event in ((image, event) for image in (sound, sound._replace(bus=12)) for event in events):
+                device = Marked(which, image, marks, healthy)
+                assert device.step(*event) == ('refused', 3)
+                assert (device.image(), device.marks, device.healthy) == (image, marks, healthy)
+        for event, number in (((6, 0), 1), ((BYTE, 256), 2), ((FETCH, 2), 2), ((LEVELS, part.limit), 2), ((6, 1 << 40), 1)):
+            device = lost(which, 1, 0, FILLING)
+            before = device.image()
+            assert device.step(*event) == ('refused', number) and (device.image(), device.marks) == (before, 0)
+        for sets in ((0, 0), (part.limit - 1, part.limit - 1)):
+            assert Marked(which, sound, *sets).step(START, 0) == '-'
+
+
+def test_marked_bursts():
+    """The loss in one call, cut anywhere and spoiled anywhere: device and marks are as after that many events."""
+    for which, part in PARTS.items():
+        unmask = (START,), (BYTE, 0x44), (BYTE, part.mask), (BYTE, 0xFE)
+        call = (START,), (BYTE, 0x00), (BYTE, 0x06), (STOP,)
+        events = (*unmask, (LEVELS, 1), *call, *unmask, (LEVELS, 0), (RESET,), (FETCH, 1))
+        data = events_of(*events)
+        for bad, number in ((None, 0),) + REFUSED[which] + (() if part.wide else (((RESET, 0, 1), 2), ((LEVELS, 3, 1), 2))):
+            for place in range(len(events) + 1):
+                for marks in (0, 2, part.limit - 1):
+                    one, single = (Marked(which, Device.make(which, 2, 0).image(), marks, 5) for _ in range(2))
+                    wanted = [single.step(*(event + (0,))[:2]) for event in events[:place]]
+                    given, asked = ((data, place) if bad is None else
+                                    (data[:12 * place] + events_of(bad) + data[12 * place:], len(events) + 1))
+                    assert one.burst(given, asked, 2 * asked) == (number, place, wanted)
+                    assert (one.image(), one.marks, one.healthy) == (single.image(), single.marks, 5)
+                    # The loss is the fifth event.
+                    assert one.marks == (marks | 1 if place > 4 else marks)
+
+
+def test_marked_bursts_refused_whole():
+    starts = events_of((START,)) * 514
+    for which, part in PARTS.items():
+        sound = Device.make(which, 2, 0).image()
+        for image, sets, broken in (
+                (sound, (5, 3), False), (sound._replace(bus=12), (5, 3), True), (sound, (part.limit, 3), True),
+                (sound, (5, part.limit), True), (sound._replace(place=3), (1 << 63, part.limit), True)):
+            def told(given, asked, room):
+                device = Marked(which, image, *sets)
+                answer = device.burst(starts[:given], asked, room)
+                assert (device.marks, device.healthy) == sets and (answer[1] or device.image() == image)
+                return answer
+            for given, asked, room in ((12, 2, 99), (0, 1, 99), (11, 0, 99), (13, 1, 99), (12, 1, 1), (514 * 12, 513, 9999),
+                                       (514 * 12, 1 << 63, 0)):
+                assert told(given, asked, room) == (8, None, []), (given, asked, room)
+            for given, room in ((0, 0), (12, 0), (514 * 12, 9999)):
+                assert told(given, 0, room) == (0, 0, [])
+            for given, asked, room in ((12, 1, 2), (514 * 12, 512, 1024)):
+                assert told(given, asked, room) == ((3, 0, []) if broken else (0, asked, ['-'] * asked))
+            bad = Marked(which, image, *sets).burst(events_of((6, 0, 1)), 1, 2)
+            assert bad == (3 if broken else 1, 0, [])
+
+
+def test_marked_lines():
+    """Marked bursts and sign-offs as text: the sets come after the image, in a line and in its answer."""
+    rng = random.Random(20)
+    for which, part in PARTS.items():
+        device = lost(which, 1, 4, IDLE)
+        fields = probe.image_fields(device.image())
+        broken = probe.image_fields(device.image()._replace(bus=12))
+        device.step(RESET, 0)
+        after = probe.image_fields(device.image())
+        sets, over = '%016x\t%016x' % (4, 3), '%016x\t%016x' % (part.limit | 4, 3)
+        data = events_of((RESET,), (6,)).hex()
+        for line, answer in (
+                ('%s\t%s\t%016x\t%04x\t%s' % (fields, sets, 1, 5, data),
+                 '0\t0000000000000001\t00003c3c3c\t%s\t%016x\t%016x' % (after, 6, 3)),
+                ('%s\t%s\t%016x\t%04x\t%s' % (fields, sets, 2, 4, data),
+                 '1\t0000000000000001\t00003c3c\t%s\t%016x\t%016x' % (after, 6, 3)),
+                ('%s\t%s\t%016x\t%04x\t%s' % (fields, over, 2, 4, data),
+                 '3\t0000000000000000\t3c3c3c3c\t%s\t%s' % (fields, over)),
+                ('%s\t%s\t%016x\t%04x\t%s' % (broken, sets, 2, 4, data),
+                 '3\t0000000000000000\t3c3c3c3c\trefused\t3\t%s' % sets),
+                ('%s\t%s\t%016x\t%04x\t%s' % (broken, over, 3, 4, data),
+                 '8\t0000000000000077\t3c3c3c3c\trefused\t3\t%s' % over),
+                ('%s\t%s\t%016x\t%04x\t' % (broken, over, 0, 0), '0\t0000000000000000\t\trefused\t3\t%s' % over)):
+            line, answer = line.encode(), answer.encode() + b'\n'
+            assert marked_bursts.run_lines(which, line) == marked_bursts.run_lines(which, line + b'\n') == answer, line
+        line = ('%s\t%s\t%016x\t%04x\t%s' % (fields, sets, 1, 5, data)).encode()
+        parts = line.split(b'\t')
+        for spoiled in (b'', line[1:], line + b'0', line + b'\t', line + b'\r', line[:-1], line.replace(b'\t', b' ', 1),
+                        line + b'00' * 6180, b'\t'.join(parts[:13] + parts[15:]), b'\t'.join(parts[:13] + parts[14:]),
+                        b'\t'.join(parts[:-1]), line.replace(b'\t0005\t', b'\t0408\t')):
+            assert marked_bursts.run_lines(which, spoiled + b'\n') == b'refused\t7\n', spoiled[:500]
+        for image, both, pin, answer in (
+                (fields, sets, 0, '13\t' + sets), (fields, sets, 1, '13\t' + sets), (after, sets, 1, '0\t' + sets),
+                (fields, sets, 2, '0\t%016x\t%016x' % (0, 3)), (fields, sets, 3, '0\t' + sets),
+                (fields, sets, which, '2\t' + sets), (fields, sets, 0xFFFFFFFF, '2\t' + sets),
+                (fields, over, which, '3\t' + over), (broken, sets, which, '3\t' + sets), (broken, over, 0, '3\t' + over)):
+            line, told = ('%s\t%s\t%08x' % (image, both, pin)).encode(), answer.encode() + b'\n'
+            assert sign_offs.run_lines(which, line) == sign_offs.run_lines(which, line + b'\n') == told, pin
+            for _ in range(20):
+                assert sign_offs.run_lines(which, generate_marks.spoiled_marks(rng, line) + b'\n') == b'refused\t7\n'
+
+
+def test_marks_leave_the_device_alone():
+    """Answers, refusals and states with sound marks are those without, of any event and of any burst."""
+    rng = random.Random(21)
+    for which in PARTS:
+        for _ in range(600):
+            read = probe.read_line(generate.image_line(rng, which)[:-1])
+            if read:
+                image, *event = read
+                with_marks = Marked(which, image, *generate_marks.mark_sets(rng, which, image))
+                without = Device(which, image)
+                assert with_marks.step(*event) == without.step(*event)
+                assert with_marks.image() == without.image() and with_marks.outputs() == without.outputs()
+        for _ in range(100):
+            image, asked, room, data = generate.burst_given(rng, which)
+            with_marks = Marked(which, image, *generate_marks.mark_sets(rng, which, image))
+            without = Device(which, image)
+            assert with_marks.burst(data, asked, room) == without.burst(data, asked, room)
+            assert with_marks.image() == without.image()
+
+
+def test_watch_is_trace_with_marks():
+    """Without its healthy sets, its sign-offs and its last column a log of watch is one of trace."""
+    rng = random.Random(22)
+    for which in PARTS:
+        for _ in range(25):
+            log = generate_marks.watch_log(rng, which, alone=rng.random() < 0.3)
+            events, wanted = [], []
+            for line, answer in zip(trace.split_lines(log), trace.split_lines(watch.run_log(log))[1:]):
+                read = watch.read_line(line)
+                if read and read[0] == watch.SIGN:
+                    assert answer in (b'refused\t2', b'refused\t13', b'refused\t7') or answer.startswith(b'-\t')
+                    continue
+                # What is unreadable here may be a device line of trace, so it is another unreadable line there.
+                unreadable = answer == b'refused\t7'
+                device = b'no device' if unreadable else line.rpartition(b'\t')[0]
+                events.append(device if line.startswith(b'device') else line)
+                wanted.append(answer if unreadable else answer.rpartition(b'\t')[0])
+            assert trace.split_lines(trace.run_log(b'\n'.join(events) + b'\n' * bool(events)))[1:] == wanted
+
+
+def test_marks_in_one_sentence():
+    """All pins at once, of any image: what an event sets, and which sign-off is taken."""
+    rng, reset, signed = random.Random(23), 0, 0
+    for which, part in PARTS.items():
+        for _ in range(600):
+            before = generate_marks.marked_image(rng, which)
+            marks, healthy = generate_marks.mark_sets(rng, which, before)
+            kind, arg = generate_marks.marked_event(rng, which, before.bus, before.choice)
+            device = Marked(which, before, marks, healthy)
+            device.step(kind, arg)
+            found = before.status if kind == RESET or (kind, before.bus) == (STOP, ARMED) else 0
+            assert device.marks == marks | device.image().status & ~before.status | found
+            reset += found & ~marks != 0
+            device, pin = Marked(which, before, marks, healthy), rng.randrange(part.pins)
+            taken = (before.status | before.level ^ healthy) >> pin & 1 == 0
+            assert device.sign_off(pin) == (0 if taken else 13)
+            assert device.marks == (marks & ~(1 << pin) if taken else marks) and device.image() == before
+            signed += taken
+    assert min(reset, signed) > 50, (reset, signed)
+
+
+def test_marks_from_power_on():
+    """In a log a status bit always has its mark; only a sign-off clears one, of a pin at rest; only a rise sets it again."""
+    rng, seen = random.Random(25), {'rises': 0, 'signed off': 0, 'refused': 0}
+    for which in PARTS:
+        for _ in range(25):
+            session, marks = watch.Watch(), None
+            for event in watch.read_log(generate_marks.watch_log(rng, which)):
+                before = session.device and session.device.image()
+                answer = session.answer(event)
+                if answer == trace.UNREADABLE:
+                    continue
+                kind, arg, _ = event
+                device, after, taken = session.device, session.device.image(), answer.startswith(b'-')
+                if kind == trace.NEW:
+                    marks = device.part.limit - 1
+                elif kind == watch.SIGN:
+                    seen['signed off' if taken else 'refused'] += 1
+                    if taken:
+                        assert (before.status | before.level ^ device.healthy) >> arg & 1 == 0
+                        marks &= ~(1 << arg)
+                    assert after == before
+                else:
+                    seen['rises'] += after.status & ~marks != 0
+                    marks |= after.status & ~before.status
+                assert device.marks == marks and after.status & ~marks == 0
+    assert min(seen.values()) > 100, seen
+
+
+def test_mark_generators():
+    rng = random.Random(24)
+    begins = {24: b'device\t', 34: b'device34\t'}
+    for which in PARTS:
+        for _ in range(30):
+            log = generate_marks.watch_log(rng, which)
+            assert log.startswith(begins[which]) and log.endswith(b'\n') and 40 <= log.count(b'\n') <= 500
+            session = watch.Watch()
+            for event in watch.read_log(generate_marks.watch_log(rng, which, others=False)):
+                session.answer(event)
+                assert session.device.which == which
+        assert generate_marks.watch_log(random.Random(6), which) == generate_marks.watch_log(random.Random(6), which)
+        # Every refusal, and none, of each kind of line; broken sets of either kind alone and of both.
+        for line, module, numbers in ((generate_marks.marked_burst_line, marked_bursts, {0, 1, 2, 3, 8}),
+                                      (generate_marks.sign_off_line, sign_offs, {0, 2, 3, 13}),
+                                      (generate_marks.new_marks_line, new_marks, {0, 2})):
+            lines = [line(rng, which)[:-1] for _ in range(250)]
+            told = [module.answer_to(which, module.read_line(one)).partition(b'\t')[0] for one in lines]
+            assert all(told.count(b'%d' % number) > 6 for number in numbers), (line.__name__, which)
+            assert set(told) == {b'%d' % number for number in numbers} | {b'refused'}
+        sets = [generate_marks.broken_sets(rng, which, (1, 2)) for _ in range(60)]
+        assert {(marks >= PARTS[which].limit, healthy >= PARTS[which].limit) for marks, healthy in sets} == {
+            (True, False), (False, True), (True, True)}
+        poised = [Device(which, generate_marks.poised_image(rng, which)) for _ in range(100)]
+        assert not any(device.broken for device in poised)
 
 
 def main():

@@ -95,8 +95,11 @@ class Session:
         return UNREADABLE if answer is None else self.line(answer).encode() + b'\n'
 
     def new(self, which, choice, levels, digits):
-        """A device line; unreadable, as with a choice over 3, it leaves the old device."""
-        made = self.make(which, choice, levels) if self.levels_read(which, levels, digits) else None
+        """A device line."""
+        return self.take(self.make(which, choice, levels) if self.levels_read(which, levels, digits) else None)
+
+    def take(self, made):
+        """Unreadable, as with a choice over 3, a device line leaves the old device."""
         if made is None or isinstance(made, tuple):
             return None
         self.device = made

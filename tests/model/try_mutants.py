@@ -4,6 +4,9 @@ A mutant of the device is tried on each part by itself, on cases of that part. O
 images alone, one that only views or only bursts can show on those alone, unless --all has the logs, for views and bursts
 the images too, run through it. Mutants of a log's reader are tried on logs of both parts, those of an image line's reader
 on such lines of each, those of the planner on plans, those of the program compare on events with answers.
+
+Mutants of a device with marks are tried on each part too, on all the places by which they say that they are told: logs of
+watch, marked bursts, sign-offs, new marks. Those of the program watch are tried on logs of both parts.
 """
 
 import random
@@ -12,11 +15,18 @@ import time
 
 import bursts
 import generate
+import generate_marks
+import marked_bursts
+import new_marks
 import probe
+import sign_offs
 import views
+import watch
 from device import PARTS, Device
 from judge import Planner
 from logs import Comparison
+from mark_mutants import BURSTS, MARKED, NEW_MARKS, PLACES, SIGN_OFFS, WATCHERS, WATCHES
+from marks import Marked
 from mutants import (BORDERERS, COMPARERS, LINE_READERS, MUTANTS, ONLY_BY_BURSTS, ONLY_BY_IMAGES, ONLY_BY_VIEWS, PLANNERS,
                      READERS, SURVIVORS, TELLERS)
 from trace import MODEL, Session, answers, read_log
@@ -28,8 +38,13 @@ IMAGE_LINES = 6000
 VIEW_LINES = 3000
 BURST_LINES = 3000
 PLANS = 3000
+WATCH_LOGS = 300
+MARKED_BURST_LINES = 2000
+SIGN_OFF_LINES = 2000
+NEW_MARKS_LINES = 300
 # Of both in turns.
 READER_TRACES = 900
+WATCHER_LOGS = 400
 # Of both together, as many as compare.py has run by a program.
 LOG_PAIRS = 400
 
@@ -74,10 +89,22 @@ def reader_cases(rng, count):
     return Cases(map(read_log, logs), lambda log, session: answers(log, session()), Session)
 
 
-def line_cases(rng, which, count, line, module):
+def line_cases(rng, which, count, line, module, model=Device):
     """Lines of one of the line programs, each with its one answer."""
     lines = (line(rng, which)[:-1] for _ in range(count))
-    return Cases(map(module.read_line, lines), lambda read, cls: [module.answer_to(which, read, cls)], Device)
+    return Cases(map(module.read_line, lines), lambda read, cls: [module.answer_to(which, read, cls)], model)
+
+
+def watch_cases(rng, which, count):
+    """Logs of watch that begin with a device of the part, the model's answers line by line."""
+    logs = (generate_marks.watch_log(rng, which, alone=n % 10 == 9) for n in range(count))
+    return Cases(map(watch.read_log, logs), lambda log, cls: answers(log, watch.Watch({**watch.MODEL, which: cls})), Marked)
+
+
+def watcher_cases(rng, count):
+    """Logs of watch of both parts in turns, by whole sessions, each with all that is written."""
+    logs = (generate_marks.watch_log(rng, list(PARTS)[n % len(PARTS)], alone=n % 4 != 3) for n in range(count))
+    return Cases(logs, lambda log, session: [b''.join(session().texts(log))], watch.Watch)
 
 
 def line_reader_cases(rng, which, count):
@@ -136,12 +163,25 @@ class Corpus:
         return trace_cases(random.Random('further %d pins %d' % (self.which, self.seed)), self.which, FURTHER_TRACES)
 
 
+def mark_corpus(seed, which):
+    """What the mutants of one part with marks are tried on."""
+    def named(place):
+        return random.Random('%s %d pins %d' % (place, which, seed))
+    return {
+        WATCHES: watch_cases(named(WATCHES), which, WATCH_LOGS),
+        **{place: line_cases(named(place), which, count, line, module, Marked) for place, count, line, module in (
+            (BURSTS, MARKED_BURST_LINES, generate_marks.marked_burst_line, marked_bursts),
+            (SIGN_OFFS, SIGN_OFF_LINES, generate_marks.sign_off_line, sign_offs),
+            (NEW_MARKS, NEW_MARKS_LINES, generate_marks.new_marks_line, new_marks))}}
+
+
 class Verdicts:
-    """What told each mutant."""
+    """What told each mutant; one with marks is alive where a place that it says does not tell it."""
 
     def __init__(self, everything):
         self.everything = everything
-        self.by = {place: [] for place in ('traces', 'images', 'views', 'bursts', 'readers', 'lines', 'plans', 'pairs')}
+        self.by = {place: [] for place in ('traces', 'images', 'views', 'bursts', 'readers', 'lines', 'plans', 'pairs',
+                                           'marked', 'watchers', *PLACES)}
         self.alive, self.wrong = [], []
 
     def put(self, place, name, told):
@@ -165,6 +205,17 @@ class Verdicts:
         if imaged and not by_image and not corpus.further_logs().tell(cls):
             self.wrong.append('%s: no log tells it' % name)
 
+    def try_marked(self, cls, which, corpus):
+        name = '%s of %d' % (cls.__name__, which)
+        told = {place: corpus[place].tell(cls) for place in cls.places}
+        for place in told:
+            self.put(place, '%s by %s' % (name, place), told[place])
+        if all(told.values()):
+            self.by['marked'].append(name)
+        if self.everything:
+            self.wrong += ['%s: %s tell it too' % (name, place) for place in PLACES
+                           if place not in cls.places and corpus[place].tell(cls)]
+
     def try_comparisons(self, seed):
         rng = random.Random('pairs %d' % seed)
         pairs = [generate.log_pair(rng, number) for number in range(LOG_PAIRS)]
@@ -185,7 +236,11 @@ def main(seed, everything):
     assert len(set(trials)) == len(trials)
     comparisons = [cls.__name__ for cls in COMPARERS + TELLERS + BORDERERS]
     assert len(set(comparisons)) == len(comparisons)
-    count = len(trials) + len(READERS) + len(LINE_READERS) * len(PARTS) + len(comparisons)
+    marked = [(cls.__name__, which) for cls in MARKED for which in cls.on]
+    assert len(set(marked)) == len(marked) and all(cls.places for cls in MARKED)
+    watchers = [cls.__name__ for cls in WATCHERS]
+    assert len(set(watchers)) == len(watchers)
+    count = len(trials) + len(READERS) + len(LINE_READERS) * len(PARTS) + len(comparisons) + len(marked) + len(watchers)
     verdicts = Verdicts(everything)
     for which in PARTS:
         corpus = Corpus(seed, which)
@@ -197,15 +252,25 @@ def main(seed, everything):
                 verdicts.put('plans', '%s of %d' % (cls.__name__, which), corpus.plans.tell(cls))
         for read in LINE_READERS:
             verdicts.put('lines', '%s of %d' % (read.__name__, which), corpus.lines.tell(read))
+        with_marks = mark_corpus(seed, which)
+        for cls in MARKED:
+            if which in cls.on:
+                verdicts.try_marked(cls, which, with_marks)
     logs = reader_cases(random.Random('readers %d' % seed), READER_TRACES)
     for cls in READERS:
         verdicts.put('readers', cls.__name__, logs.tell(cls))
     verdicts.try_comparisons(seed)
+    logs = watcher_cases(random.Random('watchers %d' % seed), WATCHER_LOGS)
+    for cls in WATCHERS:
+        verdicts.put('watchers', cls.__name__, logs.tell(cls))
     by = verdicts.by
     print('seed %d: %d mutants, %d caught by traces, %d of readers by traces, %d by lines, only by images %d, by views %d, '
-          'by bursts %d, by plans %d, by pairs %d, %d survive, %.1f s' % (
+          'by bursts %d, by plans %d, by pairs %d, with marks %d, of watch %d, %d survive, %.1f s' % (
               seed, count, len(by['traces']), len(by['readers']), len(by['lines']), len(by['images']), len(by['views']),
-              len(by['bursts']), len(by['plans']), len(by['pairs']), len(verdicts.alive), time.monotonic() - began))
+              len(by['bursts']), len(by['plans']), len(by['pairs']), len(by['marked']), len(by['watchers']),
+              len(verdicts.alive), time.monotonic() - began))
+    print('with marks, by each that can show them: %s' % ', '.join(
+        '%d by %s' % (len(by[place]), place) for place in PLACES))
     for name in verdicts.alive:
         print('survives: %s: %s' % (name, SURVIVORS.get(name, 'not expected')))
     for line in verdicts.wrong:

@@ -9,7 +9,7 @@ use native.Mathlib.Omega.{arith}
 use lib.Dec.{eqb, leb, ltb, lit<}
 use lib.Bits.{bitAnd, and-le-r}
 use lib.ListN.{length, take, drop, getD, set, length-append, length-drop}
-use lib.Seq.{drop-cons, take-all, sets, length-sets, set-comm}
+use lib.Seq.{drop-cons, take-all, sets, length-sets, set-set, set-comm}
 use borrow.Author.Tests.{ne-eqb, eq-eqb, lt-ltb, le-ltb, le-leb, lt-leb, leb-true}
 use Rattle.bits.proofs.Decide.{each}
 use Rattle.text.specs.declared.Digits.{Digits}
@@ -169,3 +169,16 @@ wrote-length {out} {left} {s} {at} a = ap length (a .holds) ∙ length-sets out 
 -- the text may be said in another way
 pub wrote-as : {out left s t : List ℕ} {at end : ℕ} → s ≡ t → Wrote out at s end left → Wrote out at t end left
 wrote-as e a = rw e at a
+
+-- a text that is written from the last byte of another one on
+pub over-last : {lent middle left more : List ℕ} {at end last : ℕ} (text : List ℕ) (b c : ℕ) → Wrote lent at (text ++ (b ∷ [])) end middle → Wrote middle (end - 1) (c ∷ more) last left
+    → Wrote lent at (text ++ (c ∷ more)) last left
+over-last {lent} {middle} {left} {more} {at} {end} text b c v w =
+    let place : end - 1 ≡ at + length text = omega (arith, v .ends, length-append text (b ∷ [])) in
+    let k : ℕ = at + length text in
+    let whole : List ℕ = sets lent at text in
+    record {
+      ends = omega (arith, w .ends, v .ends, length-append text (b ∷ []), length-append text (c ∷ more));
+      holds = w .holds ∙ ap (λ (n : ℕ). sets middle n (c ∷ more)) place ∙ ap (λ (l : List ℕ). sets l k (c ∷ more)) (v .holds ∙ sym (sets-append lent at text (b ∷ [])))
+          ∙ ap (λ (l : List ℕ). sets l (suc k) more) (set-set whole k b c) ∙ sets-append lent at text (c ∷ more);
+    }

@@ -124,3 +124,12 @@ module _ (held : List ℕ) (len : ℕ) where
         ap (λ (x : List ℕ). heldAfter x 0 [] (drop (n + 1) piece)) (e ∙ ap (λ (k : ℕ). heldAtEnd held len (take k piece)) m)
         ∙ sym (held-first [] piece ∙ rw (sym found, lt-ltb n (length piece) inside, add-one n) refl)
 
+-- where no line over 32 bytes says anything, the first 33 bytes of any line say as much as all of it
+pub cut-long : {A : Type 0} (says : List ℕ → A) (none : A) → ((s : List ℕ) → 32 < length s → none ≡ says s) → (s : List ℕ) → says (take 33 s) ≡ says s
+cut-long says none long s = go (ltb 32 (length s)) refl
+  where
+    go : (t : Bool) → ltb 32 (length s) ≡ t → says (take 33 s) ≡ says s
+    go true e =
+        let l : 32 < length s = ltb-true 32 (length s) e in
+        sym (long (take 33 s) (omega (arith, length-take-le 33 s (omega arith)))) ∙ long s l
+    go false e = let l : length s ≤ 32 = ltb-false 32 (length s) e in ap says (take-all 33 s (omega arith))

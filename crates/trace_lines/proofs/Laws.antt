@@ -1,6 +1,6 @@
 -- Each test of the reader decides one step of what a line says, and a field that is read is small enough for a device or an event that is taken. Assumes nothing.
 use mathlib.Core.Path.{_≡_, refl, _∙_}
-use mathlib.Core.Bool.{true, false}
+use mathlib.Core.Bool.{Bool, true, false, cond}
 use mathlib.Core.List.{List, [], _∷_}
 use Prim.Native.Nat.{ℕ, _-_, _^_, _<_, _≤_}
 use native.Mathlib.Omega.{arith}
@@ -8,9 +8,10 @@ use lib.Dec.{eqb, ltb}
 use lib.ListN.{length, take, drop, length-drop}
 use lib.Pow.{pow-pos}
 use lib.Seq.{take-all}
-use borrow.Author.Tests.{ne-eqb, lt-ltb, le-ltb}
+use borrow.Author.Tests.{ne-eqb, eqb-true, lt-ltb, le-ltb}
 use Rattle.bits.proofs.Decide.{and-right, either-arm}
 use Rattle.map.specs.Map.{Part, partOf}
+use Rattle.device_rules.specs.Refusals.{argumentFits}
 use Rattle.text.specs.declared.Digits.{Digits}
 use Rattle.text.specs.declared.Digits.the-variants.{Number, None}
 use Rattle.text.proofs.Laws.{starts-short, field-small, rest}
@@ -23,6 +24,22 @@ small-levels : (p : Part) {d : Digits} → Small (2 ^ p .width - 1) d → (n : �
 small-levels p s n e = omega (arith, s .small n e, pow-pos (p .width))
 
 module _ (p : Part) where
+  -- an argument that a line can say is one that is not refused
+  pub taken-fits : (kind arg : ℕ) → Taken p kind arg → argumentFits p kind arg ≡ true
+  taken-fits kind arg t = two (eqb kind 2) refl
+    where
+      two : (b : Bool) → eqb kind 2 ≡ b → cond b (ltb arg 256) (cond (eqb kind 3) (ltb arg 2) (cond (eqb kind 4) (ltb arg (2 ^ p .width)) true)) ≡ true
+      two true e = lt-ltb arg 256 (omega (arith, t .1 (eqb-true kind 2 e)))
+      two false e = three (eqb kind 3) refl
+        where
+          three : (b : Bool) → eqb kind 3 ≡ b → cond b (ltb arg 2) (cond (eqb kind 4) (ltb arg (2 ^ p .width)) true) ≡ true
+          three true e = lt-ltb arg 2 (omega (arith, t .2 (eqb-true kind 3 e)))
+          three false e = four (eqb kind 4) refl
+            where
+              four : (b : Bool) → eqb kind 4 ≡ b → cond b (ltb arg (2 ^ p .width)) true ≡ true
+              four true e = lt-ltb arg (2 ^ p .width) (t .3 (eqb-true kind 4 e))
+              four false e = refl
+
   none : Means p Unreadable
   none = record {
     makes = λ q c l e. (let z : _≡_ {A = ℕ} 0 1 = cc in absurd (omega arith));
@@ -151,8 +168,8 @@ unfolding isWord
 not-word word s h = rw (ne-eqb (length s) (length word) (λ e. omega (arith, e)))
 
 module _ (p : Part) (s : List ℕ) where
-  -- no line of one byte or none says anything
-  pub line-tiny : length s < 2 → lineOf p s ≡ Unreadable
+  -- no line of two bytes or fewer says anything
+  pub line-tiny : length s < 3 → lineOf p s ≡ Unreadable
   unfolding lineOf fieldsOf devicesOf
   line-tiny h =
       rw (

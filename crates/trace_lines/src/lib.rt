@@ -55,7 +55,7 @@ fn device_with(part: u64, choice: Digits, levels: Digits) -> Line
 }
 
 // What follows a device's word: a choice, a tab and levels.
-fn device_of(s: &[u8], part: u64) -> Line
+pub fn device_of(s: &[u8], part: u64) -> Line
     ensures { λ r. ⌜ r ≡ deviceOf part (now (s .entry)) ⌝ }
 {
     if s.len() < 2 {

@@ -16,15 +16,6 @@ pub struct Fed {
     pub end: usize,
 }
 
-// The line that has begun, with these bytes: how many of them are held then.
-fn grow(held: &mut [u8; 33], len: usize, part: &[u8]) -> usize
-    requires { ⌜ len ≤ 33 ⌝ }
-    ensures { λ y. ⌜ ((words : List ℕ) → readingOf words (now (held .exit)) y ≡ grown (readingOf words (now (held .entry)) len) (now (part .entry)))
-        × (length (now (held .exit)) ≡ 33) × (y ≤ 33) × (now (held .exit) ≡ overlaid (now (held .entry)) len (now (part .entry))) ⌝ }
-{
-    text_pieces::keep(held, len, part)
-}
-
 // The line that has begun ends with this part: its answer is written from at on.
 fn joined_line(
     words: &mut [u64; 28],
@@ -44,7 +35,7 @@ fn joined_line(
         × (length (now (held .exit)) ≡ 33) × (now (held .exit) ≡ overlaid (now (held .entry)) len (now (part .entry)))
         × Beside (now (words .exit)) (now (rows .exit)) (now (next .exit)) (now (told .exit)) (now (kept .exit)) ⌝ }
 {
-    let all = grow(held, len, part);
+    let all = text_logs::grow(held, len, part);
     let bytes = *held;
     trace_session::answer_line(words, rows, next, told, kept, &bytes[0..all], out, at)
 }
@@ -105,7 +96,7 @@ pub fn first_line(
     let part = line.len;
     let taken = line.taken;
     if taken <= part {
-        let all = grow(held, len, piece);
+        let all = text_logs::grow(held, len, piece);
         return Took {
             len: all,
             end: at,

@@ -21,7 +21,7 @@ use Rattle.device_demands.proofs.Runs.{step-answers}
 use Rattle.trace_lines.specs.Lines.{lineOf, Taken, Means}
 use Rattle.trace_lines.specs.declared.Line.{Line}
 use Rattle.trace_lines.specs.declared.Line.the-variants.{Device, Event, Unreadable}
-use Rattle.trace_lines.proofs.Laws.{line-means}
+use Rattle.trace_lines.proofs.Laws.{line-means, taken-fits}
 use Rattle.text_answers.specs.Answers.{answerLine, shownText, shownLine}
 use Rattle.trace_session.specs.Tracing.{Session, partIn, traced, answerTo}
 use Rattle.trace_session.specs.Tracing.Session.{NoDevice, With}
@@ -83,25 +83,10 @@ Fine (With part s) = WellFormed (partOf part) s
 
 -- an event that a line says is not refused by a well-formed device
 module _ (p : Part) where
-  fits : (kind arg : ℕ) → Taken p kind arg → argumentFits p kind arg ≡ true
-  fits kind arg t = two (eqb kind 2) refl
-    where
-      two : (b : Bool) → eqb kind 2 ≡ b → cond b (ltb arg 256) (cond (eqb kind 3) (ltb arg 2) (cond (eqb kind 4) (ltb arg (2 ^ p .width)) true)) ≡ true
-      two true e = lt-ltb arg 256 (omega (arith, t .1 (eqb-true kind 2 e)))
-      two false e = three (eqb kind 3) refl
-        where
-          three : (b : Bool) → eqb kind 3 ≡ b → cond b (ltb arg 2) (cond (eqb kind 4) (ltb arg (2 ^ p .width)) true) ≡ true
-          three true e = lt-ltb arg 2 (omega (arith, t .2 (eqb-true kind 3 e)))
-          three false e = four (eqb kind 4) refl
-            where
-              four : (b : Bool) → eqb kind 4 ≡ b → cond b (ltb arg (2 ^ p .width)) true ≡ true
-              four true e = lt-ltb arg (2 ^ p .width) (t .3 (eqb-true kind 4 e))
-              four false e = refl
-
   module _ (s : State) (g : WellFormed p s) (kind arg : ℕ) (t : Taken p kind arg) where
     unrefused : refusal p s kind arg ≡ 0
     unfolding refusal
-    unrefused = simp (image-of p s (g .sound), le-leb kind 5 (t .0), fits kind arg t)
+    unrefused = simp (image-of p s (g .sound), le-leb kind 5 (t .0), taken-fits p kind arg t)
 
     answers : refusalNumber (stepped p s kind arg .answer) ≡ 0
     answers = ap (λ (o : Outcome). refusalNumber (o .answer)) (sym (taken p s kind arg unrefused)) ∙ step-answers p s (eventOf kind arg)

@@ -159,5 +159,5 @@ unfolding traced
 answer-short x text = go (ltb (length text) 2) refl
   where
     go : (t : Bool) → ltb (length text) 2 ≡ t → length (answerTo x text .line) ≤ 10 * (length text + 1)
-    go true e = omega (arith, ap (λ (l : Line). length (traced x l .line)) (line-tiny (partIn x) text (ltb-true (length text) 2 e)), refused-short 7)
+    go true e = omega (arith, ap (λ (l : Line). length (traced x l .line)) (line-tiny (partIn x) text (omega (arith, ltb-true (length text) 2 e))), refused-short 7)
     go false e = omega (arith, traced-short x (lineOf (partIn x) text), ltb-false (length text) 2 e)

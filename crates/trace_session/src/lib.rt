@@ -73,7 +73,7 @@ fn refresh(words: &[u64; 28], told: &mut [u64; 5], kept: &mut [u8; 22])
 }
 
 // The text of the columns, written anew if they changed.
-fn renew(words: &[u64; 28], told: &mut [u64; 5], kept: &mut [u8; 22])
+pub fn renew(words: &[u64; 28], told: &mut [u64; 5], kept: &mut [u8; 22])
     requires { ⌜ Named (now words) × Fresh (now words) (now told) (now kept) ⌝ }
     ensures { λ r. ⌜ Fresh (now (words .entry)) (now (told .exit)) (now (kept .exit)) × Told (now (words .entry)) (now (told .exit)) ⌝ }
 {
@@ -84,7 +84,7 @@ fn renew(words: &[u64; 28], told: &mut [u64; 5], kept: &mut [u8; 22])
 }
 
 // A device anew, and the tables of its part.
-fn make(
+pub fn make(
     words: &mut [u64; 28],
     rows: &mut [u32; 128],
     next: &mut [u8; 128],
@@ -108,7 +108,7 @@ fn make(
 }
 
 // An event, on the device if there is one.
-fn event(
+pub fn event(
     words: &mut [u64; 28],
     rows: &mut [u32; 128],
     next: &mut [u8; 128],

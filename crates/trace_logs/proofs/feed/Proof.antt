@@ -47,8 +47,7 @@ loop-less c =
 loop-again : tie.Need-loop-again Inv-loop μ-loop
 loop-again c =
     let f = c .before .before .before in
-    let i = f .before .before .before .before .before .before .before .before in
-    (
+    let i = f .before .before .before .before .before .before .before .before in (
       onward-line answerTo answer-short 26 (i .before .loop .inv .0) (i .loop-test .taken) (f .first-line .ensures .0 .gives) (f .first-line .ensures .1) (f .first-line .ensures .2),
       holds-on (i .before .loop .inv .1) (f .first-line .ensures .0 .holds),
       f .first-line .ensures .3,

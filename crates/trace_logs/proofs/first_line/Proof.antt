@@ -1,9 +1,10 @@
 -- `trace_logs::first_line`: with no newline all of the piece is carried on, else its first line is answered. Assumes nothing.
 use borrow.Author.Needs.{needs}
-use mathlib.Core.Path.{refl, sym, _∙_}
+use mathlib.Core.Path.{refl, sym, ap, _∙_}
 use Rattle.text_logs.proofs.Laws.{none-holds, line-holds}
 use Rattle.text_logs.proofs.Feeding.{none-gives, line-gives}
-use Rattle.trace_session.specs.Tracing.{answerTo}
+use Rattle.text_logs.specs.Pieces.{reading}
+use Rattle.trace_session.specs.Tracing.{sessionOf, answerTo}
 use Rattle.trace_logs.proofs.first_line.Statement.{statement}
 use Rattle.trace_logs.proofs.first_line.Tie as tie
 
@@ -15,7 +16,7 @@ returns c =
     let f = n .first-line .ensures in
     let g = c .grow .ensures in
     let all = f .unended (t .if1 .taken) in
-    let gives = none-gives answerTo _ _ _ (f .ends) all (f .inside) _ _ (g .0 (s .args .words .now)) (g .2) (g .1) in
+    let gives = none-gives answerTo _ _ _ (f .ends) all (f .inside) _ _ (ap (reading (sessionOf (s .args .words .now))) (g .0)) (g .2) (g .1) in
     (record { gives = gives .0; holds = record { kept = s .pre .0; untouched = λ h. refl } }, f .takes, rw (f .takes ∙ sym (gives .1)) (none-holds _ _ _ _ (f .ends) all (g .2) (g .1) (g .3)), s .pre .4)
 
 returns-2 : tie.Need-returns-2

@@ -1,6 +1,8 @@
 -- `trace_logs::joined_line`: the bytes that are held say as much as the joined line (`line-joined`). Assumes nothing.
 use borrow.Author.Needs.{needs}
 use Rattle.trace_session.proofs.Laws.{says-as}
+use mathlib.Core.Path.{ap}
+use Rattle.text_logs.specs.Pieces.{reading}
 use Rattle.text_logs.proofs.Feeding.{line-joined}
 use Rattle.trace_session.specs.Tracing.{sessionOf, answerTo}
 use native.Mathlib.Omega.{arith}
@@ -18,7 +20,7 @@ returns c =
     let bytes = p .before .before .before .before .before .before .before in
     let g = bytes .before .before .before in
     let x = g .before .before .before .before .args in
-    (says-as (line-joined answerTo (sessionOf (x .words .now)) (x .held .now) (x .len) (g .grow .result) _ (x .part .now) (g .grow .ensures .0 (x .words .now))) (p .answer-line .ensures .0), g .grow .ensures .1, g .grow .ensures .3, p .answer-line .ensures .1)
+    (says-as (line-joined answerTo (sessionOf (x .words .now)) (x .held .now) (x .len) (g .grow .result) _ (x .part .now) (ap (reading (sessionOf (x .words .now))) (g .grow .ensures .0))) (p .answer-line .ensures .0), g .grow .ensures .1, g .grow .ensures .3, p .answer-line .ensures .1)
 
 pub joined-line-spec : {M : Type 1} → statement M
 joined-line-spec = tie.close (tie.spec (λ c κs. search needs) (λ c. search needs) (λ c. search needs) part-answer-line-end (λ c κs. search needs) (λ c. search needs) returns)

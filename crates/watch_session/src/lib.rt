@@ -1,0 +1,232 @@
+// The watch program's work: one line in, one line out, as a trace has it, with the loss marks beside the device and at the end of each line.
+ghost use mathlib.Core.List.{List, _∷_, _++_};
+ghost use Prim.Native.Nat.{ℕ, _+_, _^_, _<_, _≤_};
+ghost use lib.ListN.{length, getD};
+ghost use Rattle.map.specs.Map.{partOf};
+ghost use Rattle.device_rules.specs.Device.{out as outcome};
+ghost use Rattle.device_rules.specs.declared.Answer.the-variants.{Nothing};
+ghost use Rattle.device_rules.specs.PowerOn.{powerOn};
+ghost use Rattle.words_state.specs.Packed.{stateIn};
+ghost use Rattle.words_device.specs.Named.{Named};
+ghost use Rattle.text.specs.Text.{hexText, Wrote};
+ghost use Rattle.text_answers.specs.Answers.{digitsOf, newline};
+ghost use Rattle.trace_lines.specs.Lines.{Taken};
+ghost use Rattle.trace_session.specs.Tracing.{Fresh, Beside};
+ghost use Rattle.loss_rules.specs.Marks.{newMarks};
+ghost use Rattle.watch_session.specs.Watch.{watchOf, refusalLine, markedLine, toldBy, watched, answerTo, Kept, Says};
+use device_rules::Answer;
+use device_rules::UNREADABLE;
+use loss_marks::NOT_HEALTHY;
+use loss_marks::SET;
+use trace_session::NO_PART;
+use watch_lines::Said;
+use words::PART;
+use words::STATUS;
+
+// Refusal 7.
+fn refuse(out: &mut [u8], at: usize) -> usize
+    requires { ⌜ at + 36 ≤ length (now out) ⌝ }
+    ensures { λ end. ⌜ Wrote (now (out .entry)) at (refusalLine 7) end (now (out .exit)) ⌝ }
+{
+    text_answers::put_refused(out, at, UNREADABLE)
+}
+
+// A sign-off's refusal.
+fn refuse_sign(out: &mut [u8], at: usize, number: u32) -> usize
+    requires { ⌜ (at + 36 ≤ length (now out)) × (number < 256) ⌝ }
+    ensures { λ end. ⌜ Wrote (now (out .entry)) at (refusalLine number) end (now (out .exit)) ⌝ }
+{
+    if number == NOT_HEALTHY {
+        return text::put(out, at, b"refused\t13\n");
+    }
+    text_answers::put_refused(out, at, number as u8)
+}
+
+// Puts the marks at the end of a line that ends here, in place of its newline, and says where it ends then.
+fn put_marks(out: &mut [u8], end: usize, part: u64, set: u64) -> usize
+    requires { ⌜ (0 < end) × (end + 10 ≤ length (now out)) ⌝ }
+    ensures { λ r. ⌜ ((lent : List ℕ) (at : ℕ) (text : List ℕ) → Wrote lent at (text ++ newline) end (now (out .entry))
+        → Wrote lent at (text ++ ((0x09 ∷ hexText (digitsOf (partOf part)) set) ++ newline)) r (now (out .exit))) ⌝ }
+{
+    let start = text::put(out, end - 1, b"\t");
+    let digits = text_answers::digits_of(part);
+    let last = text::put_hex(out, start, digits, set);
+    text::put(out, last, b"\n")
+}
+
+// A device anew, with marks that are all set.
+fn make(
+    words: &mut [u64; 28],
+    rows: &mut [u32; 128],
+    next: &mut [u8; 128],
+    told: &mut [u64; 5],
+    kept: &mut [u8; 22],
+    marks: &mut [u64; 2],
+    part: u64,
+    choice: u8,
+    levels: u64,
+    healthy: u64,
+    out: &mut [u8],
+    at: usize,
+) -> usize
+    requires { ⌜ (part < 2) × (choice < 4) × (levels < 2 ^ partOf part .width) × (healthy < 2 ^ partOf part .width) × (at + 36 ≤ length (now out)) ⌝ }
+    ensures { λ end. ⌜ Says (toldBy part (outcome Nothing (powerOn (partOf part) choice levels 0)) (newMarks (partOf part) healthy)) (now (words .entry)) (now (marks .entry)) (now (out .entry)) at end (now (out .exit)) (now (words .exit)) (now (marks .exit))
+        × Beside (now (words .exit)) (now (rows .exit)) (now (next .exit)) (now (told .exit)) (now (kept .exit)) ⌝ }
+{
+    let end = trace_session::make(words, rows, next, told, kept, part, choice, levels, out, at);
+    loss_marks::make(marks, part, healthy);
+    put_marks(out, end, part, marks[SET])
+}
+
+// An event of the device that there is, which is not refused; what it sets is marked.
+fn event_on(
+    words: &mut [u64; 28],
+    rows: &mut [u32; 128],
+    next: &mut [u8; 128],
+    told: &mut [u64; 5],
+    kept: &mut [u8; 22],
+    marks: &mut [u64; 2],
+    kind: u32,
+    arg: u64,
+    out: &mut [u8],
+    at: usize,
+) -> usize
+    requires { ⌜ Kept (now words) (now marks) × (at + 36 ≤ length (now out)) × Beside (now words) (now rows) (now next) (now told) (now kept)
+        × (getD (now words) 27 0 < 2) × Taken (partOf (getD (now words) 27 0)) kind arg ⌝ }
+    ensures { λ end. ⌜ Says (watched (watchOf (now (words .entry)) (now (marks .entry))) (Said.Event kind arg)) (now (words .entry)) (now (marks .entry)) (now (out .entry)) at end (now (out .exit)) (now (words .exit)) (now (marks .exit))
+        × Beside (now (words .exit)) (now (rows .exit)) (now (next .exit)) (now (told .exit)) (now (kept .exit)) ⌝ }
+{
+    let before = words[STATUS];
+    let resets = loss_marks::is_reset(&*words, kind);
+    let end = trace_session::event(words, rows, next, told, kept, kind, arg, out, at);
+    loss_marks::note(marks, resets, before, words[STATUS]);
+    put_marks(out, end, words[PART], marks[SET])
+}
+
+// An event, on the device if there is one.
+fn event(
+    words: &mut [u64; 28],
+    rows: &mut [u32; 128],
+    next: &mut [u8; 128],
+    told: &mut [u64; 5],
+    kept: &mut [u8; 22],
+    marks: &mut [u64; 2],
+    kind: u32,
+    arg: u64,
+    out: &mut [u8],
+    at: usize,
+) -> usize
+    requires { ⌜ Kept (now words) (now marks) × (at + 36 ≤ length (now out)) × Beside (now words) (now rows) (now next) (now told) (now kept)
+        × Taken (partOf (getD (now words) 27 0)) kind arg ⌝ }
+    ensures { λ end. ⌜ Says (watched (watchOf (now (words .entry)) (now (marks .entry))) (Said.Event kind arg)) (now (words .entry)) (now (marks .entry)) (now (out .entry)) at end (now (out .exit)) (now (words .exit)) (now (marks .exit))
+        × Beside (now (words .exit)) (now (rows .exit)) (now (next .exit)) (now (told .exit)) (now (kept .exit)) ⌝ }
+{
+    if words[PART] < NO_PART {
+        return event_on(words, rows, next, told, kept, marks, kind, arg, out, at);
+    }
+    refuse(out, at)
+}
+
+// A sign-off that was taken on the device that there is.
+fn signed(
+    words: &[u64; 28],
+    told: &mut [u64; 5],
+    kept: &mut [u8; 22],
+    set: u64,
+    out: &mut [u8],
+    at: usize,
+) -> usize
+    requires { ⌜ Named (now words) × (at + 36 ≤ length (now out)) × Fresh (now words) (now told) (now kept) ⌝ }
+    ensures { λ end. ⌜ Wrote (now (out .entry)) at (markedLine (partOf (getD (now (words .entry)) 27 0)) (outcome Nothing (stateIn (partOf (getD (now (words .entry)) 27 0)) (now (words .entry)))) set) end (now (out .exit))
+        × Fresh (now (words .entry)) (now (told .exit)) (now (kept .exit)) ⌝ }
+{
+    trace_session::renew(words, told, kept);
+    let end = text_answers::put_line(out, at, words[PART], Answer::Nothing, &*kept);
+    put_marks(out, end, words[PART], set)
+}
+
+// A sign-off on the device that there is.
+fn sign_on(
+    words: &[u64; 28],
+    told: &mut [u64; 5],
+    kept: &mut [u8; 22],
+    marks: &mut [u64; 2],
+    pin: u32,
+    out: &mut [u8],
+    at: usize,
+) -> usize
+    requires { ⌜ Kept (now words) (now marks) × (at + 36 ≤ length (now out)) × Fresh (now words) (now told) (now kept) × (getD (now words) 27 0 < 2) ⌝ }
+    ensures { λ end. ⌜ Says (watched (watchOf (now (words .entry)) (now (marks .entry))) (Said.SignOff pin)) (now (words .entry)) (now (marks .entry)) (now (out .entry)) at end (now (out .exit)) (now (words .entry)) (now (marks .exit))
+        × Fresh (now (words .entry)) (now (told .exit)) (now (kept .exit)) ⌝ }
+{
+    let number = loss_marks::sign_off(words, marks, words[PART], pin);
+    if number == 0 {
+        return signed(words, told, kept, marks[SET], out, at);
+    }
+    refuse_sign(out, at, number)
+}
+
+// A sign-off, on the device if there is one.
+fn sign(
+    words: &[u64; 28],
+    told: &mut [u64; 5],
+    kept: &mut [u8; 22],
+    marks: &mut [u64; 2],
+    pin: u32,
+    out: &mut [u8],
+    at: usize,
+) -> usize
+    requires { ⌜ Kept (now words) (now marks) × (at + 36 ≤ length (now out)) × Fresh (now words) (now told) (now kept) ⌝ }
+    ensures { λ end. ⌜ Says (watched (watchOf (now (words .entry)) (now (marks .entry))) (Said.SignOff pin)) (now (words .entry)) (now (marks .entry)) (now (out .entry)) at end (now (out .exit)) (now (words .entry)) (now (marks .exit))
+        × Fresh (now (words .entry)) (now (told .exit)) (now (kept .exit)) ⌝ }
+{
+    if words[PART] < NO_PART {
+        return sign_on(words, told, kept, marks, pin, out, at);
+    }
+    refuse(out, at)
+}
+
+// One line, without its newline: its answer is written from at on; says where it ends.
+pub fn answer_line(
+    words: &mut [u64; 28],
+    rows: &mut [u32; 128],
+    next: &mut [u8; 128],
+    told: &mut [u64; 5],
+    kept: &mut [u8; 22],
+    marks: &mut [u64; 2],
+    line: &[u8],
+    out: &mut [u8],
+    at: usize,
+) -> usize
+    requires { ⌜ Kept (now words) (now marks) × (at + 36 ≤ length (now out)) × Beside (now words) (now rows) (now next) (now told) (now kept) ⌝ }
+    ensures { λ end. ⌜ Says (answerTo (watchOf (now (words .entry)) (now (marks .entry))) (now (line .entry))) (now (words .entry)) (now (marks .entry)) (now (out .entry)) at end (now (out .exit)) (now (words .exit)) (now (marks .exit))
+        × Beside (now (words .exit)) (now (rows .exit)) (now (next .exit)) (now (told .exit)) (now (kept .exit)) ⌝ }
+{
+    let said = watch_lines::read(line, words[PART]);
+    match said {
+        Said::Device {
+            part,
+            choice,
+            levels,
+            healthy,
+        } => make(
+            words,
+            rows,
+            next,
+            told,
+            kept,
+            marks,
+            part,
+            choice,
+            levels,
+            healthy,
+            out,
+            at,
+        ),
+        Said::Event { kind, arg } => {
+            event(words, rows, next, told, kept, marks, kind, arg, out, at)
+        }
+        Said::SignOff { pin } => sign(&*words, told, kept, marks, pin, out, at),
+        Said::Unreadable => refuse(out, at),
+    }
+}
