@@ -1,13 +1,13 @@
 -- The marks over the loop: those so far, and then the rest, are the whole. Assumes nothing.
-use mathlib.Core.Path.{_≡_, refl, sym, ap, _∙_}
+use mathlib.Core.Path.{_≡_, sym, ap, _∙_}
 use mathlib.Core.Bool.{Bool, true, false, cond}
-use mathlib.Core.List.{List, [], _∷_}
-use Prim.Native.Nat.{ℕ, _+_, _*_, _-_, _^_, _<_, _≤_}
+use mathlib.Core.List.{List}
+use Prim.Native.Nat.{ℕ, _+_, _-_, _^_, _<_, _≤_}
 use native.Mathlib.Omega.{arith}
 use lib.Dec.{eqb}
 use lib.ListN.{getD}
 use Rattle.map.specs.Map.{Part, partOf}
-use Rattle.device_rules.specs.Device.{State, Outcome, out}
+use Rattle.device_rules.specs.Device.{Outcome}
 use Rattle.device_rules.specs.Refusals.{eventOf}
 use Rattle.device_rules.specs.Answers.{answerKind}
 use Rattle.device_rules.specs.declared.Answer.{Answer}

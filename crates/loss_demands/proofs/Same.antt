@@ -1,6 +1,6 @@
 -- The device is the same with marks or without. Assumes nothing.
-use mathlib.Core.Path.{_≡_, refl, sym, ap, ap₂, _∙_}
-use mathlib.Core.Bool.{Bool, true, false, cond}
+use mathlib.Core.Path.{_≡_, refl, ap, ap₂, _∙_}
+use mathlib.Core.Bool.{Bool, true, cond}
 use mathlib.Core.List.{List, [], _∷_}
 use Prim.Native.Nat.{ℕ, _^_, _<_}
 use Rattle.map.specs.Map.{Part}
@@ -10,9 +10,9 @@ use Rattle.device_rules.specs.PowerOn.{powerOn}
 use Rattle.device_rules.specs.declared.Answer.{Answer}
 use Rattle.device_rules.specs.declared.Answer.the-variants.{Refused}
 use Rattle.device_demands.specs.Run.{after, answers}
-use Rattle.loss_rules.specs.Marks.{Marks, marksFit, newMarks, markedStep}
+use Rattle.loss_rules.specs.Marks.{Marks, marksFit, markedStep}
 use Rattle.loss_rules.proofs.Laws.{fit-after, fit-signed, fit-new}
-use Rattle.loss_demands.specs.Watched.{Act, Watched, watched, poweredOn, acted, afterAll, eventsOf, answersTo}
+use Rattle.loss_demands.specs.Watched.{Act, Watched, poweredOn, acted, afterAll, eventsOf, answersTo}
 use Rattle.loss_demands.specs.Watched.Act.{Event, SignOff}
 
 module _ (p : Part) where

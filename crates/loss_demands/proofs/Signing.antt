@@ -7,18 +7,18 @@ use Prim.Native.Nat.{ℕ, _^_, _<_}
 use borrow.Author.Tests.{eqb-true, eq-eqb, lt-ltb}
 use lib.Dec.{eqb, ltb}
 use Rattle.bits.specs.Bits.{bit, differs}
-use Rattle.bits.proofs.Decide.{clash, and-left, and-right}
+use Rattle.bits.proofs.Decide.{clash}
 use Rattle.map.specs.Map.{Part}
-use Rattle.device_rules.specs.Device.{State, Outcome, out, step}
+use Rattle.device_rules.specs.Device.{Outcome, out, step}
 use Rattle.device_rules.specs.Refusals.{eventOf, imageFits, refusal, stepped}
 use Rattle.device_rules.specs.Answers.{answerKind}
 use Rattle.device_rules.specs.declared.Answer.the-variants.{Refused}
 use Rattle.device_demands.proofs.Lawful.{Lawful}
 use Rattle.device_demands.proofs.Keeps.{never-broken}
 use Rattle.device_demands.proofs.Runs.{step-taken}
-use Rattle.loss_rules.specs.Marks.{Marks, isReset, setsMark, quietAndHealthy, marksFit, newMarks, markedStep, signRefused, signOff}
+use Rattle.loss_rules.specs.Marks.{isReset, setsMark, quietAndHealthy, marksFit, markedStep, signRefused}
 use Rattle.loss_rules.proofs.Laws.{marked-after, marked-signed, healthy-after, healthy-signed, fit-new, marked-new}
-use Rattle.loss_demands.specs.Watched.{Act, Watched, watched, poweredOn, acted, afterAll, eventsOf, marked, status, level, healthyLevel, setsAt, NeverSet, QuietThroughout, SignedOff}
+use Rattle.loss_demands.specs.Watched.{Act, Watched, poweredOn, acted, afterAll, eventsOf, marked, status, level, healthyLevel, setsAt, NeverSet, QuietThroughout, SignedOff}
 use Rattle.loss_demands.specs.Watched.Act.{Event, SignOff}
 use Rattle.loss_demands.proofs.Same.{all-fit, same-device}
 

@@ -5,16 +5,15 @@ use mathlib.Core.List.{List, [], _∷_}
 use Prim.Native.Nat.{ℕ, zero, suc, _+_, _-_, _*_, _/_, _%_, _^_, _<_, _≤_}
 use native.Mathlib.Nat.{mod-lt, mod-eq-of-lt}
 use native.Mathlib.Omega.{arith}
-use borrow.Author.Tests.{eq-eqb, ne-eqb, lt-ltb, le-ltb, le-leb, lt-leb, ltb-true, ltb-false}
-use lib.Bits.{bitAnd, bitOr, bitXor}
+use borrow.Author.Tests.{eq-eqb, ne-eqb, le-ltb, le-leb, lt-leb, ltb-true, ltb-false}
+use lib.Bits.{bitOr}
 use lib.Dec.{eqb, ltb, leb}
 use lib.Pow.{pow-pos, pow-lt}
-use Rattle.bits.specs.Bits.{bit, pos, differs, without, tabulate}
+use Rattle.bits.specs.Bits.{bit, pos, without}
 use Rattle.bits.proofs.Decide.{taut}
 use Rattle.bits.proofs.Laws.{below, bit-or, bit-without, bit-shr, bit-shl, bit-shl-low, bit-zero, bit-ones, tabulated}
 use Rattle.map.specs.Map.{Part, partOf}
-use Rattle.device_rules.specs.Device.{State, number}
-use Rattle.device_rules.specs.Device.Bus.{Armed}
+use Rattle.device_rules.specs.Device.{State}
 use Rattle.device_rules.specs.Refusals.{eventOf}
 use Rattle.device_rules.specs.Answers.{answerKind}
 use Rattle.words_state.specs.Packed.{answerAt}

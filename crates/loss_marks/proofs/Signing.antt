@@ -1,19 +1,17 @@
 -- A sign-off on words: its refusals in their order, and what is cleared. Assumes nothing.
-use mathlib.Core.Path.{_≡_, refl, sym, ap, ap₂, _∙_}
-use mathlib.Core.Bool.{Bool, true, false, cond, _&&_}
+use mathlib.Core.Path.{_≡_, refl, sym, ap, _∙_}
+use mathlib.Core.Bool.{Bool, true, false, cond}
 use mathlib.Core.List.{List}
 use Prim.Native.Nat.{ℕ, _<_, _≤_}
 use borrow.Author.Tests.{lt-ltb, le-ltb}
 use lib.Dec.{eqb, ltb}
 use lib.ListN.{getD}
 use Rattle.bits.specs.Bits.{bit}
-use Rattle.bits.proofs.Decide.{clash}
 use Rattle.map.specs.Map.{Part, partOf}
 use Rattle.device_rules.specs.Device.{State}
-use Rattle.device_rules.specs.Refusals.{imageFits}
 use Rattle.words_state.specs.Packed.{stateIn, Packed}
 use Rattle.words_state.proofs.Judging.{image-fits}
-use Rattle.loss_rules.specs.Marks.{Marks, SignedOff, quietAndHealthy, signed, marksFit, signRefused, signOff}
+use Rattle.loss_rules.specs.Marks.{quietAndHealthy, signed, marksFit, signRefused, signOff}
 use Rattle.loss_marks.specs.Lent.{marksIn, Signs}
 
 module _ (c : ℕ) (w m : List ℕ) (pin : ℕ) where

@@ -14,7 +14,7 @@ use Rattle.device_rules.specs.Refusals.{eventOf, stepped}
 use Rattle.device_rules.specs.Answers.{answerKind}
 use Rattle.device_rules.specs.declared.Answer.{Answer}
 use Rattle.device_rules.specs.declared.Answer.the-variants.{Refused}
-use Rattle.words_state.specs.Packed.{stateIn, Packed, Leaves, Steps}
+use Rattle.words_state.specs.Packed.{stateIn, Packed, Steps}
 use Rattle.loss_rules.specs.Marks.{Marks, isReset, noted, marksAfter, marksFit, markedStep}
 use Rattle.loss_marks.specs.Lent.{marksIn, MarkedSteps}
 

@@ -1,10 +1,10 @@
 -- The loss marks pin by pin, and that they go on fitting. Assumes nothing.
-use mathlib.Core.Path.{_≡_, refl, sym, ap, ap₂, _∙_}
+use mathlib.Core.Path.{_≡_, refl}
 use mathlib.Core.Bool.{Bool, true, false, cond, not, _&&_, _||_}
 use Prim.Native.Nat.{ℕ, _^_, _<_}
 use borrow.Author.Tests.{lt-ltb, ltb-true}
 use lib.Dec.{eqb, ltb}
-use Rattle.bits.specs.Bits.{bit, tabulate}
+use Rattle.bits.specs.Bits.{bit}
 use Rattle.bits.proofs.Decide.{and-left, and-right}
 use Rattle.bits.proofs.Laws.{bit-tabulate, tabulate-lt}
 use Rattle.map.specs.Map.{Part}

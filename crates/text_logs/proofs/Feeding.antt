@@ -11,7 +11,7 @@ use Rattle.text.specs.Text.{Wrote}
 use Rattle.text.proofs.Laws.{rest as tail, wrote-as, wrote-both, wrote-nothing, wrote-length}
 use Rattle.text_pieces.specs.Pieces.{newlineAt, takenOf}
 use Rattle.text_logs.specs.Lines.{Reply}
-use Rattle.text_logs.specs.Pieces.{Reading, reading, Given, nothing, grown, ended, answerOf, andThen, given, firstGiven, atEnd, heldAfter, Gives, Ends}
+use Rattle.text_logs.specs.Pieces.{Reading, reading, Given, nothing, grown, ended, answerOf, andThen, given, firstGiven, heldAfter, Gives, Ends}
 use Rattle.text_logs.proofs.Laws.{given-first, overlaid-nothing, end-none, end-line}
 
 pub taken-some : (piece : List ℕ) → 0 < length piece → (0 < takenOf piece) × (takenOf piece ≤ length piece)

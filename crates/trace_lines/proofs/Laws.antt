@@ -7,7 +7,6 @@ use native.Mathlib.Omega.{arith}
 use lib.Dec.{eqb, ltb}
 use lib.ListN.{length, take, drop, length-drop}
 use lib.Pow.{pow-pos}
-use lib.Seq.{take-all}
 use borrow.Author.Tests.{ne-eqb, eqb-true, lt-ltb, le-ltb}
 use Rattle.bits.proofs.Decide.{and-right, either-arm}
 use Rattle.map.specs.Map.{Part, partOf}

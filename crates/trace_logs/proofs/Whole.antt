@@ -1,6 +1,6 @@
 -- What is written for a log is a function of its text, whatever the pieces in which it arrives. Assumes nothing.
 use mathlib.Core.Path.{_≡_, ap}
-use mathlib.Core.List.{List, [], _++_}
+use mathlib.Core.List.{List, _++_}
 use Prim.Native.Nat.{ℕ}
 use Rattle.text_logs.specs.Pieces.{joined}
 use Rattle.text_logs.proofs.Whole as pieces

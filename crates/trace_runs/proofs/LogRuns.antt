@@ -1,17 +1,15 @@
 -- A log that makes devices and goes on with events of them is answered by the lines of the devices' runs, and no log is answered by another refusal than 7. Assumes nothing.
 use mathlib.Core.Path.{_≡_, refl, sym, ap, _∙_}
-use mathlib.Core.Bool.{Bool, true, false, cond}
 use mathlib.Core.List.{List, [], _∷_, _++_, append-assoc}
 use mathlib.Core.Logic.{inl, inr}
-use Prim.Native.Nat.{ℕ, zero, suc, _^_}
+use Prim.Native.Nat.{ℕ, zero, suc}
 use native.Mathlib.Omega.{arith}
-use borrow.Author.Tests.{le-leb, lt-ltb, eqb-true}
-use lib.Dec.{eqb, ltb}
+use borrow.Author.Tests.{le-leb}
 use Rattle.map.specs.Map.{Part, part34, partOf}
 use Rattle.device_rules.specs.Device.{State, Outcome, out}
 use Rattle.device_rules.specs.Answers.{refusalNumber}
 use Rattle.device_rules.specs.declared.Answer.the-variants.{Nothing}
-use Rattle.device_rules.specs.Refusals.{argumentFits, refusal, stepped, eventOf}
+use Rattle.device_rules.specs.Refusals.{refusal, stepped, eventOf}
 use Rattle.device_rules.specs.PowerOn.{powerOn}
 use Rattle.device_rules.proofs.Images.{taken}
 use Rattle.device_demands.specs.Run.{Asked, after, seenFrom}

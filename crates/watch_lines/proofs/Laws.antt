@@ -1,14 +1,13 @@
 -- Each test of the reader decides one step of what a line says, and what is read can be made or is not refused. Assumes nothing.
-use mathlib.Core.Path.{_≡_, refl, ap, sym, _∙_}
-use mathlib.Core.Bool.{Bool, true, false}
+use mathlib.Core.Path.{_≡_, refl, ap, _∙_}
+use mathlib.Core.Bool.{true, false}
 use mathlib.Core.List.{List}
 use Prim.Native.Nat.{ℕ, _+_, _-_, _^_, _<_, _≤_}
 use native.Mathlib.Omega.{arith}
-use borrow.Author.Tests.{lt-ltb, le-ltb, ltb-true, ltb-false}
+use borrow.Author.Tests.{lt-ltb, le-ltb}
 use lib.Dec.{ltb}
 use lib.ListN.{length, take, drop, length-drop}
 use lib.Pow.{pow-pos}
-use lib.Seq.{take-all, length-take-le}
 use Rattle.bits.proofs.Decide.{either-arm}
 use Rattle.map.specs.Map.{Part, partOf}
 use Rattle.text.specs.declared.Digits.{Digits}
@@ -21,7 +20,7 @@ use Rattle.trace_lines.specs.declared.Line.{Line}
 use Rattle.trace_lines.specs.declared.Line.the-variants as trace
 use Rattle.trace_lines.proofs.Laws.{line-means, line-tiny, line-long}
 use Rattle.watch_lines.specs.declared.Said.{Said}
-use Rattle.watch_lines.specs.declared.Said.the-variants.{Device, Event, SignOff, Unreadable}
+use Rattle.watch_lines.specs.declared.Said.the-variants.{Device, Event, Unreadable}
 use Rattle.watch_lines.specs.Watching.{sign, signWith, deviceWith, deviceOf, ownOf, saidAs, saidBy, Means}
 
 -- ---- a device

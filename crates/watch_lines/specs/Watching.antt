@@ -1,7 +1,7 @@
 -- What a line of a watched log says: a trace's line with two changes. A device line has a fourth field, each pin's healthy level, and `sign` signs a pin off.
 use mathlib.Core.Path.{_≡_}
 use mathlib.Core.Bool.{cond}
-use mathlib.Core.List.{List, [], _∷_}
+use mathlib.Core.List.{List, _∷_}
 use Prim.Native.Nat.{ℕ, _+_, _^_, _<_, _≤_}
 use lib.Dec.{ltb}
 use lib.ListN.{length, take, drop}

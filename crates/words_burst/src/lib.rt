@@ -1,13 +1,9 @@
 // Many events in one call, on words that are lent: the image is tested once.
-ghost use mathlib.Core.Path.{_≡_};
 ghost use Prim.Native.Nat.{ℕ, _+_, _*_, _≤_};
-ghost use mathlib.Core.Bool.{false};
-ghost use lib.Dec.{eqb};
-ghost use lib.ListN.{length, getD, set};
+ghost use lib.ListN.{length, getD};
 ghost use Rattle.map.specs.Map.{partOf};
-ghost use Rattle.device_rules.specs.Answers.{answerKind, answerByte};
 ghost use Rattle.words_rows.specs.Rows.{Tabled};
-ghost use Rattle.words_state.specs.Packed.{stateIn, answerAt, Packed, Leaves};
+ghost use Rattle.words_state.specs.Packed.{stateIn, Packed};
 ghost use Rattle.words_device.specs.Named.{Named};
 ghost use Rattle.words_events.specs.Events.{sentOf};
 ghost use Rattle.words_burst.specs.Burst.{ran, Left, Bursts};

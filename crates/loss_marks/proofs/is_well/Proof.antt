@@ -1,7 +1,7 @@
 -- `loss_marks::is_well`: a status bit of 1, or a level that differs from the healthy one, is not well. Assumes nothing.
 use borrow.Author.Needs.{needs}
-use mathlib.Core.Path.{sym, ap, ap₂, _∙_}
-use mathlib.Core.Bool.{Bool, true, false, not}
+use mathlib.Core.Path.{sym, ap, _∙_}
+use mathlib.Core.Bool.{Bool, not}
 use lib.ListN.{getD}
 use Rattle.bits.specs.Bits.{bit}
 use Rattle.bits.proofs.Laws.{bit-xor}

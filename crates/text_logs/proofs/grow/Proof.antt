@@ -1,7 +1,6 @@
 -- `text_logs::grow`: of the bytes so far and these the first 33 are kept (`kept-most`). Assumes nothing.
 use borrow.Author.Needs.{needs}
 use mathlib.Core.Path.{_≡_, _∙_}
-use Prim.Native.Nat.{ℕ}
 use lib.ListN.{length}
 use Rattle.text_pieces.proofs.Laws.{kept-most}
 use Rattle.text_logs.specs.Pieces.{overlaid}

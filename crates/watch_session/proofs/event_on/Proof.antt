@@ -1,6 +1,5 @@
 -- `watch_session::event_on`: what a trace says of the event, and what it sets (`event-says`). Assumes nothing.
 use borrow.Author.Needs.{needs}
-use mathlib.Core.Path.{sym, ap, _∙_}
 use native.Mathlib.Omega.{arith}
 use borrow.Author.Tests.{lt-ltb}
 use lib.ListN.{getD}

@@ -1,8 +1,5 @@
 -- `watch_session::refuse_sign`: 13 has two digits, any other number is as a trace has it. Assumes nothing.
 use borrow.Author.Needs.{needs}
-use mathlib.Core.Path.{sym, ap}
-use mathlib.Core.Bool.{Bool, cond}
-use borrow.Author.Tests.{eq-eqb, ne-eqb}
 use Rattle.text.proofs.Laws.{wrote-as}
 use Rattle.watch_session.proofs.Lines.{thirteen, any-other}
 use Rattle.watch_session.proofs.refuse_sign.Statement.{statement}
