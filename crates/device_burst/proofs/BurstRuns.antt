@@ -54,7 +54,7 @@ module _ (p : Part) where
         first = rw k
 
   -- an event as it is sent is the step of it
-  sent-steps : (s : State) (e : Asked) → one p s (asSent p e) ≡ stepped p s (e .kind) (e .arg)
+  pub sent-steps : (s : State) (e : Asked) → one p s (asSent p e) ≡ stepped p s (e .kind) (e .arg)
   unfolding one
   sent-steps s e = go (halved p) refl
     where

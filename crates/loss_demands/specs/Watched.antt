@@ -44,6 +44,11 @@ eventsOf [] = []
 eventsOf (Event kind arg ∷ acts) = record { kind = kind; arg = arg } ∷ eventsOf acts
 eventsOf (SignOff pin ∷ acts) = eventsOf acts
 
+-- events alone, nothing signed off
+abbrev pub actsOf : List Asked → List Act
+actsOf [] = []
+actsOf (e ∷ es) = Event (e .kind) (e .arg) ∷ actsOf es
+
 -- the answers to its events
 unfoldable pub answersTo : Part → Watched → List Act → List Answer
 answersTo p x [] = []
