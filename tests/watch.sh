@@ -2,30 +2,12 @@
 # The program watch: the shipped examples, and seeded logs against the independent model (SEED and LOGS on request: LOGS=20000 SEED=7 tests/watch.sh).
 set -u
 cd "$(dirname "${BASH_SOURCE[0]}")/.." || exit 2
-bad=0
-fail() {
-    echo "watch: $*"
-    bad=1
-}
+name=watch
+. tests/talk.bash
 
-for log in examples/*.watch; do
-    ./ghixramel watch <"$log" | cmp -s - "${log%.watch}.answers" || fail "$log: other answers"
-done
-
-[ "$(./ghixramel watch </dev/null)" = $'answer\tint\tlow\thigh\tmarks' ] || fail "an empty log does not give the header alone"
-
-# a host that talks through a pipe has each answer before it sends the next line
-coproc ./ghixramel watch
-program=$COPROC_PID
-ask() { # LINE, then the answer must come
-    printf '%s\n' "$1" >&"${COPROC[1]}"
-    IFS= read -r -t 20 told <&"${COPROC[0]}" || fail "no answer to '$1'"
-}
-want() { # LINE ANSWER
-    ask "$1"
-    [ "$told" = "$2" ] || fail "'$1' got '$told', wanted '$2'"
-}
-IFS= read -r -t 20 told <&"${COPROC[0]}" || fail "no header"
+try_examples
+try_empty $'answer\tint\tlow\thigh\tmarks'
+begin_talk
 # nothing is signed off before a device, nor made by a line of trace
 want $'sign\t00' $'refused\t7'
 want $'device\t2\t000000' $'refused\t7'
@@ -56,12 +38,7 @@ done
 want 'stop' $'-\t1\t000000000\t000000000\t0ffffffff'
 want $'device\t1\t000000\tffffff' $'-\t1\t000000\t000000\tffffff'
 want $'sign\t00' $'refused\t13'
-eval "exec ${COPROC[1]}>&-"
-wait "$program" 2>/dev/null
-
-# a line of ten million bytes is one refusal
-lines=$(head -c 10000000 /dev/zero | tr '\0' 'x' | ./ghixramel watch | wc -l)
-[ "$lines" -eq 2 ] || fail "a long line gave $lines lines, wanted the header and one refusal"
-
-python3 tests/model/compare.py watch ./ghixramel watch --seed "${SEED:-1}" --count "${LOGS:-750}" || bad=1
+end_talk
+try_long_line
+try_model "${LOGS:-750}"
 exit $bad

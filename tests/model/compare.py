@@ -135,43 +135,15 @@ def compare_log_answers(program, parts, command, rng, count):
     return False, len(alone) + len(logs)
 
 
-def compare_lines(what, lines, run_lines, which, command):
-    """All lines in one run; the last one lacks its newline."""
-    given = b''.join(lines)[:-1]
-    wanted, got = run_lines(which, given), run(command, given)
-    if wanted != got:
-        report(what, given, wanted, got, 0)
-    return wanted == got, len(lines)
-
-
-def compare_probe(which, command, rng, count):
-    lines = [generate.image_line(rng, which) for _ in range(count)]
-    return compare_lines('image lines', lines, probe.run_lines, which, command)
-
-
-def compare_views(which, command, rng, count):
-    lines = [generate.view_line(rng, which) for _ in range(count)]
-    return compare_lines('view lines', lines, views.run_lines, which, command)
-
-
-def compare_burst(which, command, rng, count):
-    lines = [generate.burst_line(rng, which) for _ in range(count)]
-    return compare_lines('burst lines', lines, bursts.run_lines, which, command)
-
-
-def compare_marked_bursts(which, command, rng, count):
-    lines = [generate_marks.marked_burst_line(rng, which) for _ in range(count)]
-    return compare_lines('marked burst lines', lines, marked_bursts.run_lines, which, command)
-
-
-def compare_sign_offs(which, command, rng, count):
-    lines = [generate_marks.sign_off_line(rng, which) for _ in range(count)]
-    return compare_lines('sign-off lines', lines, sign_offs.run_lines, which, command)
-
-
-def compare_new_marks(which, command, rng, count):
-    lines = [generate_marks.new_marks_line(rng, which) for _ in range(count)]
-    return compare_lines('new marks lines', lines, new_marks.run_lines, which, command)
+def lines_of(what, line, run_lines):
+    """A comparison of a program that answers each line by itself, on that many lines: all in one run, the last without its newline."""
+    def compare(which, command, rng, count):
+        given = b''.join(line(rng, which) for _ in range(count))[:-1]
+        wanted, got = run_lines(which, given), run(command, given)
+        if wanted != got:
+            report(what, given, wanted, got, 0)
+        return wanted == got, count
+    return compare
 
 
 def compare_plan(which, command, rng, count):
@@ -304,8 +276,15 @@ def options(words):
     return words, chosen['--seed'], chosen['--count']
 
 
-COMPARED = {'probe': compare_probe, 'plan': compare_plan, 'views': compare_views, 'burst': compare_burst,
-            'marked-bursts': compare_marked_bursts, 'sign-offs': compare_sign_offs, 'new-marks': compare_new_marks}
+COMPARED = {
+    'plan': compare_plan,
+    'probe': lines_of('image lines', generate.image_line, probe.run_lines),
+    'views': lines_of('view lines', generate.view_line, views.run_lines),
+    'burst': lines_of('burst lines', generate.burst_line, bursts.run_lines),
+    'marked-bursts': lines_of('marked burst lines', generate_marks.marked_burst_line, marked_bursts.run_lines),
+    'sign-offs': lines_of('sign-off lines', generate_marks.sign_off_line, sign_offs.run_lines),
+    'new-marks': lines_of('new marks lines', generate_marks.new_marks_line, new_marks.run_lines),
+}
 # Those that have logs, of one part or of both.
 COMPARED_BY_LOGS = {'trace': TRACE, 'watch': WATCH}
 # Those that have both parts in one case.

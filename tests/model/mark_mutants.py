@@ -667,34 +667,36 @@ class FirstEventOnlyNoted(Marked):
             self.noted = True
 
 
-@marked(BURSTS)
-class LastEventUnnoted(Marked):
+class RemembersMarks(Marked):
+    """What the marks were before the last event that was noted."""
+
     def burst(self, data, asked, room):
         self.last = self.marks
+        return super().burst(data, asked, room)
+
+    def note(self, before, reset):
+        self.last = self.marks
+        super().note(before, reset)
+
+
+@marked(BURSTS)
+class LastEventUnnoted(RemembersMarks):
+    def burst(self, data, asked, room):
         told = super().burst(data, asked, room)
         if told[0] == 0 and asked:
             self.marks = self.last
         return told
 
-    def note(self, before, reset):
-        self.last = self.marks
-        super().note(before, reset)
-
 
 @marked(BURSTS)
-class EventBeforeRefusedUnnoted(Marked):
+class EventBeforeRefusedUnnoted(RemembersMarks):
     """A refused event takes the one before with it."""
 
     def burst(self, data, asked, room):
-        self.last = self.marks
         told = super().burst(data, asked, room)
         if told[0] in (1, 2):
             self.marks = self.last
         return told
-
-    def note(self, before, reset):
-        self.last = self.marks
-        super().note(before, reset)
 
 
 @marked(BURSTS)
