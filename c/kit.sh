@@ -12,10 +12,12 @@ launch=("$tools/lib/ld-linux-x86-64.so.2" --library-path "$tools/lib")
 
 # the library that include/ghixramel.h describes, proved and built if it is not there or older than its sources
 need_library() {
-    if [ ! -f "$library" ] || [ -n "$(find crates.txt crates -newer "$library" -print -quit)" ]; then
-        rt staticlib ghixramel </dev/null >&2 || return 1
-        touch "$library"
-    fi
+    tools/library
+}
+
+# a module as the compiler's text
+text_of() { # MODULE
+    "$tools/bin/clang" --no-default-config --target=x86_64-unknown-linux-gnu -S -emit-llvm -Xclang -disable-llvm-passes -x ir "$1" -o -
 }
 
 # the kit has no C headers: those of c/include stand in
