@@ -2,10 +2,21 @@
 # The library as a C program calls it: the header in each language, its own checks (tests/c/host.c), then the independent model on seeded
 # images, logs, plans, views, bursts without and with marks, sign-offs, new marks, watch logs and pairs of events and answers (SEED, IMAGES,
 # LOGS, PLANS, VIEWS, BURSTS, MARKED_BURSTS, SIGN_OFFS, NEW_MARKS, WATCHES and PAIRS on request: IMAGES=100000 SEED=7 tests/host.sh).
+# tests/host.sh TARGET: the same on the library for another processor (tools/archive); where that is emulated one case in ONE_IN is tried, ten
+# if nothing is said: ONE_IN=1 tests/host.sh riscv64.
 set -u
 cd "$(dirname "${BASH_SOURCE[0]}")/.." || exit 2
 . c/kit.sh
 out=target/host
+one_in=1
+if [ $# -gt 0 ]; then
+    . c/targets.sh
+    target=$1
+    choose_target "$target" || { echo "host: no target '$target'" && exit 2; }
+    . c/bare/kit.sh
+    out=target/archive/$target/tests
+    [ -z "$emulator" ] || one_in=${ONE_IN:-10}
+fi
 bad=0
 fail() {
     echo "host: $*"
@@ -38,7 +49,7 @@ build() {
     host+=" points identity refusals broken carried shows plans bursts marks compares"
     mkdir -p "$out" || return 1
     for name in $host as_peer {plan,view,burst,marked_burst,sign_off,new_marks,watch}_lines log_pairs; do
-        compile_c "$out/$name.o" "tests/c/$name.c" || return 1
+        compile_c "$out/$name.o" "tests/c/$name.c" -DONE_IN="$one_in" || return 1
     done
     for name in mix peer; do
         compile_c "$out/$name.o" "c/$name.c" || return 1
@@ -59,7 +70,7 @@ try_header() { # NAME OPTIONS..
 }
 
 judge() { # WHAT PROGRAM COUNT
-    python3 tests/model/compare.py "$1" "${launch[@]}" "$out/$2" --seed "${SEED:-1}" --count "$3" || bad=1
+    python3 tests/model/compare.py "$1" "${launch[@]}" "$out/$2" --seed "${SEED:-1}" --count "$3" --one-in "$one_in" || bad=1
 }
 
 judge_part() { # PART PINS
@@ -76,14 +87,15 @@ judge_part() { # PART PINS
 need_library || exit 1
 build || exit 1
 
-"$tools/bin/ld.lld" -static -e 0 -T tests/c/alone.ld --whole-archive "$library" -o "$out/alone" ||
+# a WebAssembly module is linked by itself already: what it imports are read, write and exit
+[ "${system:-}" = wasm ] || "$tools/bin/ld.lld" -w -static -e 0 -T tests/c/alone.ld --whole-archive "$library" -o "$out/alone" ||
     fail "the library needs a symbol of others, or keeps data"
 
 try_header c99 -std=c99 || fail "the header as C99"
 try_header c11 -std=c11 || fail "the header as C11"
 try_header c++11 -x c++ -std=c++11 || fail "the header as C++11"
-# where pointers and alignment have 32 bits; the library is for 64, so this one is not linked
-compile_c "$out/header_32.o" tests/c/header.c -m32 || fail "the header for 32 bits"
+# where pointers and alignment have 32 bits; this library is for 64, so this one is not linked
+[ $# -gt 0 ] || compile_c "$out/header_32.o" tests/c/header.c -m32 || fail "the header for 32 bits"
 
 "${launch[@]}" "$out/host" || bad=1
 judge_part "" 24

@@ -11,7 +11,7 @@
 
 #include <libc.h>
 
-enum { RANDOM_IMAGES = 3, SEED = 1 };
+enum { RANDOM_IMAGES = 3 / ONE_IN, SEED = 1 };
 
 /* Of every part. */
 static const struct ghixramel_marks whole_marks = {0};

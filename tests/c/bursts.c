@@ -13,7 +13,7 @@
 
 #include <libc.h>
 
-enum { EVENT = GHIXRAMEL_EVENT_BYTES, MOST = GHIXRAMEL_MOST_EVENTS, GIVEN = 514, SMALL = 6, CUT_EVENTS = 1000, RANDOM_CUTS = 200, SEED = 5 };
+enum { EVENT = GHIXRAMEL_EVENT_BYTES, MOST = GHIXRAMEL_MOST_EVENTS, GIVEN = 514, SMALL = 6, CUT_EVENTS = 1000, RANDOM_CUTS = 200 / ONE_IN, SEED = 5 };
 enum { OLD = 0x3C, UNTOUCHED = 0x77 };
 
 #define EACH(item, table) (uint32_t item = 0; item < sizeof(table) / sizeof *(table); item++)
@@ -155,7 +155,7 @@ static void want_burst(const struct ghixramel *device, uint32_t refusal, uint32_
 static void every_size(void (*make)(uint32_t, uint64_t, const struct ghixramel_image *))
 {
     uint64_t random = SEED;
-    for (uint32_t size = 0; size <= MOST; size++) {
+    for (uint32_t size = 0; size <= MOST; size += ONE_IN) {
         struct ghixramel_image image = random_image(&random);
         struct ghixramel device = device_from(&image);
         make(GIVEN, SEED + size, &image);
@@ -237,7 +237,7 @@ static void refused_in_the_middle(void (*make)(uint32_t, uint64_t, const struct 
     for (image.bus = GHIXRAMEL_IDLE; image.bus <= GHIXRAMEL_TELLING; image.bus++) {
         struct ghixramel device = device_from(&image);
         make(SMALL, SEED + image.bus, &image);
-        for (uint32_t place = 0; place < SMALL; place++)
+        for (uint32_t place = 0; place < SMALL; place += ONE_IN)
             refusals_at(&device, place);
     }
 }
@@ -319,7 +319,7 @@ static void broken_states(void)
     struct ghixramel_image image = power_on_image(3, 0x0F0F0F);
     struct ghixramel whole = device_from(&image);
     make_list(SMALL, SEED, &image);
-    for (uint32_t word = 0; word < sizeof whole.words / sizeof *whole.words; word++) {
+    for (uint32_t word = 0; word < sizeof whole.words / sizeof *whole.words; word += ONE_IN) {
         struct ghixramel broken = whole;
         broken.words[word] |= (uint64_t)1 << 63;
         about("burst on a state with a broken word", word);
@@ -338,7 +338,7 @@ static void broken_marks(void)
     struct ghixramel whole = device_from(&image), broken = whole;
     broken.words[0] = UINT64_MAX;
     make_list(GIVEN, SEED, &image);
-    for (uint32_t bit = part->pins; bit < 64; bit++)
+    for (uint32_t bit = part->pins; bit < 64; bit += ONE_IN)
         for (uint32_t sets = 1; sets <= 3; sets++) {
             first_marks.set = whole_marks.set | (uint64_t)(sets & 1) << bit;
             first_marks.healthy = whole_marks.healthy | (uint64_t)(sets >> 1) << bit;
@@ -401,7 +401,7 @@ static void cuts(void (*make)(uint32_t, uint64_t, const struct ghixramel_image *
     struct ghixramel device = device_from(&image);
     make(CUT_EVENTS, SEED, &image);
     struct outcome wanted = one_by_one(&device);
-    for (uint32_t size = 1; size <= MOST; size++) {
+    for (uint32_t size = 1; size <= MOST; size += ONE_IN) {
         about("list cut into bursts of", size);
         want_outcome(&wanted, in_bursts(&device, size, 0, &random));
     }

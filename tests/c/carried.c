@@ -11,7 +11,7 @@
 
 #include <libc.h>
 
-enum { IMAGES = 3000, RUNS = 40, EVENTS = 500, ORDERS = 100, SEED = 4 };
+enum { IMAGES = 3000 / ONE_IN, RUNS = 40 / ONE_IN, EVENTS = 500, ORDERS = 100 / ONE_IN, SEED = 4 };
 
 #define SAME(what, one, other) want(what, 0, memcmp(one, other, sizeof *(one)) != 0)
 

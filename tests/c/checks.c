@@ -21,8 +21,8 @@ void want(const char *what, uint64_t wanted, uint64_t got)
         return;
     failed++;
     /* At once, in case a call that spoils memory ends the program. */
-    dprintf(STANDARD_OUTPUT, "host: %u pins, %s (%lx): %s: wanted %lx, got %lx\n", part->pins, present_topic, (unsigned long)present_detail,
-            what, (unsigned long)wanted, (unsigned long)got);
+    dprintf(STANDARD_OUTPUT, "host: %u pins, %s (%llx): %s: wanted %llx, got %llx\n", part->pins, present_topic,
+            (unsigned long long)present_detail, what, (unsigned long long)wanted, (unsigned long long)got);
 }
 
 int verdict(void)

@@ -212,7 +212,7 @@ static void change_bytes(const struct recording *recording)
     for (size_t place = 0; place < changed.count; place++) {
         char kept = bytes[place];
         about(recording->of, place);
-        for (uint32_t other = 1; other <= UINT8_MAX; other++) {
+        for (uint32_t other = 1; other <= UINT8_MAX; other += ONE_IN) {
             bytes[place] = (char)((uint8_t)kept ^ other);
             want_finding(recording->events, changed, line_found(GHIXRAMEL_DEPARTS, changed, begin));
         }

@@ -2,6 +2,11 @@
 #ifndef HOST_CHECKS_H
 #define HOST_CHECKS_H
 
+/* Of the many sizes, bytes, seeded images and runs all are tried and every call watched, or one in so many where a processor is emulated. */
+#ifndef ONE_IN
+#define ONE_IN 1
+#endif
+
 void check_points(void);
 void check_identity(void);
 void check_device_refusals(void);

@@ -12,7 +12,7 @@
 
 #include <libc.h>
 
-enum { CHOICE = 2, INPUT = 0x00, RUNS = 60, EVENTS = 500, ONE_SIGN_OFF_IN = 8, IMAGES = 300, SEED = 6 };
+enum { CHOICE = 2, INPUT = 0x00, RUNS = 60 / ONE_IN, EVENTS = 500, ONE_SIGN_OFF_IN = 8, IMAGES = 300 / ONE_IN, SEED = 6 };
 
 #define EACH(item, table) (uint32_t item = 0; item < sizeof(table) / sizeof *(table); item++)
 
@@ -449,7 +449,7 @@ static void try_marks(const struct ghixramel *device)
 {
     const struct ghixramel_marks whole[] = {{0, 0}, {all_pins(), all_pins()}};
     for EACH (i, whole)
-        for (uint32_t bit = part->pins; bit < 64; bit++) {
+        for (uint32_t bit = part->pins; bit < 64; bit += ONE_IN) {
             uint64_t wrong = (uint64_t)1 << bit;
             about("marks with a broken bit", bit);
             want_marks_broken(device, (struct ghixramel_marks){whole[i].set | wrong, whole[i].healthy});

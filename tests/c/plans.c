@@ -8,7 +8,7 @@
 
 #include <libc.h>
 
-enum { MOST_SETTING = 16, RANDOM_PAIRS = 400, SEED = 3 };
+enum { MOST_SETTING = 16, RANDOM_PAIRS = 400 / ONE_IN, SEED = 3 };
 
 struct setting {
     uint8_t bytes[MOST_SETTING];

@@ -5,7 +5,7 @@
 #include "images.h"
 #include "master.h"
 
-enum { IMAGES = 40, SEED = 2 };
+enum { IMAGES = 40 / ONE_IN, SEED = 2 };
 
 static void show_beside_fetch(const struct ghixramel *device, uint32_t number)
 {

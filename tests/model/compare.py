@@ -1,11 +1,12 @@
-"""A program under test against the model: python3 compare.py WHAT COMMAND... [--seed N] [--count N].
+"""A program under test against the model: python3 compare.py WHAT COMMAND... [--seed N] [--count N] [--one-in N].
 
 WHAT is trace or watch (logs of both parts in turns), trace24, watch24, trace34 or watch34 (of one alone, for programs
 that know no other), or probe, plan, views, burst, marked-bursts, sign-offs or new-marks for the 24-pin part and probe34,
 plan34 and so on for its sister; marked_bursts.py, sign_offs.py and new_marks.py say what the lines of the last three are.
 Or logs for the program compare, which is given two file names, or log-pairs for a program that reads as many events and
 answers as there are from its input: their lengths in decimal, a space between and a newline after, then the bytes of both.
-For each it prints a line of verdict, offset and length, a space between.
+For each it prints a line of verdict, offset and length, a space between. With --one-in, one in so many of all cases is tried,
+for a program that an emulator runs.
 """
 
 import os
@@ -95,7 +96,7 @@ WATCH = Logs(watch.run_log, lambda which, choice, levels: generate_marks.watch_d
              (b'sign\t00', b'sign\t18\nsign\tff\n', b'device\t2\t000000\nsign\t00\n'))
 
 
-def compare_log_answers(program, parts, command, rng, count):
+def compare_log_answers(program, parts, command, rng, count, one_in):
     """Some logs by themselves, the others one after another in one run; each begins with its own device.
 
     The parts take turns; where there are two, a log may have devices of both.
@@ -108,14 +109,14 @@ def compare_log_answers(program, parts, command, rng, count):
     edges = [b'', b'\n', b'start', b'x' * 33, *program.edges]
     edges += [program.device_line(which, 2, 0).encode() for which in parts]
     edges += [b'x' * 33 + b'\n%s\n' % program.device_line(which, 0, PARTS[which].limit - 1).encode() for which in parts]
-    alone = edges + [log(number, alone=True) for number in range(len(edges), ALONE)]
+    alone = (edges + [log(number, alone=True) for number in range(len(edges), ALONE)])[::one_in]
     for number, one in enumerate(alone):
         wanted, got = run_log(one), run(command, one)
         if wanted != got:
             report('log %d by itself' % number, one, wanted, got, 1)
             return False, len(alone)
     logs = [log(number) for number in range(count)]
-    logs += [program.long_log(rng, parts[number % len(parts)], LONG_LINES) for number in range(LONG_LOGS)]
+    logs += [program.long_log(rng, parts[number % len(parts)], LONG_LINES) for number in range(0, LONG_LOGS, one_in)]
     joined = b''.join(logs)
     wanted, got = run_log(joined), run(command, joined)
     if wanted == got:
@@ -137,7 +138,7 @@ def compare_log_answers(program, parts, command, rng, count):
 
 def lines_of(what, line, run_lines):
     """A comparison of a program that answers each line by itself, on that many lines: all in one run, the last without its newline."""
-    def compare(which, command, rng, count):
+    def compare(which, command, rng, count, _one_in):
         given = b''.join(line(rng, which) for _ in range(count))[:-1]
         wanted, got = run_lines(which, given), run(command, given)
         if wanted != got:
@@ -146,12 +147,12 @@ def lines_of(what, line, run_lines):
     return compare
 
 
-def compare_plan(which, command, rng, count):
+def compare_plan(which, command, rng, count, one_in):
     """All starts and goals in one run; each answer is judged, none compared."""
     planner, unreadable = Planner(which), unreadable_plans(2 * len(PARTS[which].settings))
     pairs = [generate.setting_pair(rng, which) for _ in range(count)]
     pairs += [generate.malformed_pair(rng, which) for _ in range(count // 10)]
-    pairs += generate.one_pin_pairs(which)
+    pairs += list(generate.one_pin_pairs(which))[::one_in]
     rng.shuffle(pairs)
     lines = [b'%s\t%s' % (start.hex().encode(), goal.hex().encode()) for start, goal in pairs]
     got = run(command, b'\n'.join(lines + list(unreadable)) + b'\n').decode('latin-1').split('\n')
@@ -170,8 +171,8 @@ def compare_plan(which, command, rng, count):
     return True, len(pairs)
 
 
-def log_pairs(rng, count):
-    return [generate.log_pair(rng, number) for number in range(count)] + list(generate.further_log_pairs(rng))
+def log_pairs(rng, count, one_in):
+    return [generate.log_pair(rng, number) for number in range(count)] + list(generate.further_log_pairs(rng))[::one_in]
 
 
 def report_pair(what, pair, wanted, got):
@@ -233,9 +234,9 @@ def on_pipes(command, rng, pair):
             writer.join()
 
 
-def compare_logs(command, rng, count):
+def compare_logs(command, rng, count, one_in):
     """Each pair of events and answers in a run of its own, from files; some from pipes too."""
-    pairs = log_pairs(rng, count)
+    pairs = log_pairs(rng, count, one_in)
     with tempfile.TemporaryDirectory(prefix='compare-') as room:
         for number, pair in enumerate(pairs):
             model = Comparison(*pair)
@@ -251,9 +252,9 @@ def compare_logs(command, rng, count):
     return True, len(pairs)
 
 
-def compare_log_pairs(command, rng, count):
+def compare_log_pairs(command, rng, count, one_in):
     """All pairs of events and answers in one run."""
-    pairs = log_pairs(rng, count)
+    pairs = log_pairs(rng, count, one_in)
     given = b''.join(b'%d %d\n%s%s' % (len(events), len(answers), events, answers) for events, answers in pairs)
     got = run(command, given).split(b'\n')
     if len(got) != len(pairs) + 1 or got[-1] != b'':
@@ -269,11 +270,11 @@ def compare_log_pairs(command, rng, count):
 
 def options(words):
     """The command without the options that may follow it."""
-    chosen = {'--seed': 1, '--count': None}
+    chosen = {'--seed': 1, '--count': None, '--one-in': 1}
     while len(words) >= 2 and words[-2] in chosen:
         chosen[words[-2]] = int(words[-1])
         words = words[:-2]
-    return words, chosen['--seed'], chosen['--count']
+    return words, *chosen.values()
 
 
 COMPARED = {
@@ -303,13 +304,13 @@ def comparison(what):
 
 
 def main(words):
-    command, seed, count = options(words[1:])
+    command, seed, count, one_in = options(words[1:])
     name, compare = comparison(words[0] if words else '')
     if not compare or not command:
         print(__doc__)
         return 2
     began = time.monotonic()
-    agree, done = compare(command, random.Random(seed), COUNTS[name] if count is None else count)
+    agree, done = compare(command, random.Random(seed), (COUNTS[name] if count is None else count) // one_in, one_in)
     print('%s: seed %d, %d cases, %s, %.1f s' % (
         words[0], seed, done, 'all agree' if agree else 'DIFFERENT', time.monotonic() - began))
     return 0 if agree else 1
