@@ -1,6 +1,7 @@
 /* The library and the peer on the same events in one process, taking turns, best of seven each: single steps, then bursts against the
  * peer's single steps; then the planner, and single steps of the sister, which have no peer.
- * Prints lines `step`, `burst`, `plan`, `step34`: nanoseconds an event or a plan of the library, of the peer, and their ratio. */
+ * Prints lines `step`, `burst`, `plan`, `step34`: how many events or plans, and the nanoseconds of the library and of the peer for all
+ * of them, 0 where there is no peer. */
 #include "given.h"
 #include "peer.h"
 
@@ -32,6 +33,11 @@ static void keep_best(int64_t *best, int64_t took)
 {
     if (*best == 0 || took < *best)
         *best = took;
+}
+
+static void tell(const char *what, size_t count, int64_t ours, int64_t peers)
+{
+    printf("%s\t%lu\t%lu\t%lu\n", what, (unsigned long)count, (unsigned long)ours, (unsigned long)peers);
 }
 
 static void same_state(const struct ghixramel *ours, const struct peer *peer, size_t place)
@@ -122,8 +128,7 @@ static void bench_steps(void)
         same(our_sum, peer_sum, "sums of answers", round);
         same_state(&ours, &peer, round);
     }
-    double steps = (double)EVENTS * TIMES_OVER;
-    printf("step\t%.2f\t%.2f\t%.2f\n", (double)our_best / steps, (double)peer_best / steps, (double)our_best / (double)peer_best);
+    tell("step", EVENTS * TIMES_OVER, our_best, peer_best);
 }
 
 /* One way to go over all events in bursts of 512, the last shorter: answers to the burst's events, from the first on. */
@@ -192,8 +197,7 @@ static void bench_bursts(void)
         same(our_sum, peer_sum, "sums of answers to bursts", round);
         same_state(&ours, &peer, round);
     }
-    double steps = (double)EVENTS * TIMES_OVER;
-    printf("burst\t%.2f\t%.2f\t%.2f\n", (double)our_best / steps, (double)peer_best / steps, (double)our_best / (double)peer_best);
+    tell("burst", EVENTS * TIMES_OVER, our_best, peer_best);
 }
 
 static void write_setting(uint8_t setting[GHIXRAMEL_SETTING_BYTES], uint8_t number, uint8_t value)
@@ -242,7 +246,7 @@ static void bench_plans(void)
         keep_best(&best, time_plans(&sums[round]));
         same(sums[round], sums[0], "sums of plans", round);
     }
-    printf("plan\t%.2f\t-\t-\n", (double)best / PAIRS);
+    tell("plan", PAIRS, best, 0);
 }
 
 /* Each refused event is in the sum, and none is to be. */
@@ -265,7 +269,7 @@ static void bench_sister(void)
     for (size_t round = 0; round < ROUNDS; round++)
         keep_best(&best, time_sister(&device, &refused));
     same(refused, 0, "refusals of the sister", 0);
-    printf("step34\t%.2f\t-\t-\n", (double)best / ((double)EVENTS * TIMES_OVER));
+    tell("step34", EVENTS * TIMES_OVER, best, 0);
 }
 
 /* The mix, so that a reader sees what was timed. */
