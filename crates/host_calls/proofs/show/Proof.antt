@@ -11,8 +11,8 @@ use Rattle.map.specs.Map.{partOf}
 use Rattle.words_rows.specs.Rows.{rowAt}
 use Rattle.words_rows.proofs.Taken.{row-zero, word-there}
 use Rattle.host_words.proofs.Laws.{shown-here, no-register, not-shown, above}
-use Rattle.ghixramel.proofs.show.Statement.{statement}
-use Rattle.ghixramel.proofs.show.Tie as tie
+use Rattle.host_calls.proofs.show.Statement.{statement}
+use Rattle.host_calls.proofs.show.Tie as tie
 
 -- the row that was looked up is the register's
 row-of : (part row n : ℕ) → n < 128 → row ≡ rowAt (partOf part) (n % 128) → row ≡ rowAt (partOf part) n

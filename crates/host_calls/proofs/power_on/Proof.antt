@@ -8,8 +8,8 @@ use lib.Pow.{pow-pos}
 use Rattle.map.specs.Map.{partOf}
 use Rattle.device_rules.proofs.Making.{choice-over, levels-over, id-over, none-over}
 use Rattle.host_words.proofs.Laws.{made, not-made}
-use Rattle.ghixramel.proofs.power_on.Statement.{statement}
-use Rattle.ghixramel.proofs.power_on.Tie as tie
+use Rattle.host_calls.proofs.power_on.Statement.{statement}
+use Rattle.host_calls.proofs.power_on.Tie as tie
 
 -- the pins are those that levels are compared with
 over : (part pins levels : ℕ) → pins ≡ 2 ^ partOf part .width - 1 → pins < levels → 2 ^ partOf part .width ≤ levels

@@ -1,8 +1,8 @@
 -- `step`: the step on words, told in numbers (`told-of`). Assumes nothing.
 use borrow.Author.Needs.{needs}
 use Rattle.host_words.proofs.Laws.{told-of}
-use Rattle.ghixramel.proofs.step.Statement.{statement}
-use Rattle.ghixramel.proofs.step.Tie as tie
+use Rattle.host_calls.proofs.step.Statement.{statement}
+use Rattle.host_calls.proofs.step.Tie as tie
 
 returns : tie.Need-returns
 returns c =
