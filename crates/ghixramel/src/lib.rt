@@ -9,7 +9,8 @@ ghost use Rattle.planner_promise.specs.Answer.{answerOf, Answers};
 ghost use Rattle.planner_promise.specs.Promise.{Promise};
 ghost use Rattle.host_words.specs.Host.{Told, Made, Seen, Shown, drivesOf, intOf, imageIn, FromImage, ToImage, plannedAs, countIn};
 ghost use Rattle.words_burst.specs.Burst.{Bursts};
-ghost use Rattle.loss_marks.specs.Lent.{MakesMarks, Signs};
+ghost use Rattle.loss_sets.specs.Sets.{MakesMarks};
+ghost use Rattle.loss_marks.specs.Lent.{Signs};
 ghost use Rattle.loss_burst.specs.MarkedBurst.{MarkedBursts};
 ghost use Rattle.loss_host.specs.MarkedHost.{MarkedTold};
 ghost use Rattle.text_pieces.specs.Pieces.{newlineAt};
@@ -109,7 +110,7 @@ pub extern "C" fn ghixramel_burst(
 pub extern "C" fn ghixramel_marks_new(marks: &mut [u64; 2], healthy: u64) -> u32
     ensures { λ r. ⌜ MakesMarks 0 healthy r (now (marks .entry)) (now (marks .exit)) ⌝ }
 {
-    loss_marks::make(marks, PCAL6524, healthy)
+    loss_sets::make(marks, PCAL6524, healthy)
 }
 
 // One event, and what it sets is marked.
@@ -274,7 +275,7 @@ pub extern "C" fn ghixramel34_burst(
 pub extern "C" fn ghixramel34_marks_new(marks: &mut [u64; 2], healthy: u64) -> u32
     ensures { λ r. ⌜ MakesMarks 1 healthy r (now (marks .entry)) (now (marks .exit)) ⌝ }
 {
-    loss_marks::make(marks, PCAL6534, healthy)
+    loss_sets::make(marks, PCAL6534, healthy)
 }
 
 #[no_mangle]

@@ -12,7 +12,7 @@ use Rattle.words_events.specs.Events.{sentOf, eight}
 use Rattle.words_burst.specs.Burst.{ran, Left}
 use Rattle.words_burst.proofs.Calling as burst
 use Rattle.loss_rules.specs.Marks.{marksFit}
-use Rattle.loss_marks.specs.Lent.{marksIn}
+use Rattle.loss_sets.specs.Sets.{marksIn}
 use Rattle.loss_burst.specs.MarkedBurst.{marksOver, passes, MarkedBursts}
 
 module _ (c : ℕ) (w m bytes : List ℕ) (asked : ℕ) (answers done : List ℕ) where

@@ -13,7 +13,7 @@ use Rattle.words_state.specs.Packed.{stateIn, Packed}
 use Rattle.words_events.specs.Events.{Sent, sentOf, wholeOf, one, eight}
 use Rattle.words_burst.specs.Burst.{Bursts}
 use Rattle.loss_rules.specs.Marks.{Marks, marksAfter, marksFit}
-use Rattle.loss_marks.specs.Lent.{marksIn}
+use Rattle.loss_sets.specs.Sets.{marksIn}
 
 -- the marks after one event as it is sent
 abbrev pub markedBy : Part → State → Sent → Marks → Marks

@@ -10,7 +10,7 @@ ghost use Rattle.words_device.specs.Named.{Named};
 ghost use Rattle.words_events.specs.Events.{eventAt, sentOf, one};
 ghost use Rattle.words_burst.specs.Burst.{ran, Left};
 ghost use Rattle.loss_rules.specs.Marks.{marksFit};
-ghost use Rattle.loss_marks.specs.Lent.{marksIn};
+ghost use Rattle.loss_sets.specs.Sets.{marksIn};
 ghost use Rattle.loss_burst.specs.MarkedBurst.{markedBy, marksOver, MarkedBursts};
 use device_rules::Answer;
 use loss_marks::BROKEN;
@@ -41,7 +41,7 @@ fn take(
     if loss_marks::is_refused(number) {
         return number;
     }
-    loss_marks::note(marks, resets, before, words[STATUS]);
+    loss_sets::note(marks, resets, before, words[STATUS]);
     number
 }
 
@@ -101,7 +101,7 @@ pub fn burst(
         return 0;
     }
     let pins = map::pins_of(part);
-    if !loss_marks::fit(&*marks, pins) {
+    if !loss_sets::fit(&*marks, pins) {
         *done = [0];
         return BROKEN;
     }

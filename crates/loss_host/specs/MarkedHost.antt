@@ -8,7 +8,7 @@ use Rattle.map.specs.Map.{partOf}
 use Rattle.words_state.specs.Packed.{stateIn, Packed}
 use Rattle.host_words.specs.Host.{Told}
 use Rattle.loss_rules.specs.Marks.{marksFit, markedStep}
-use Rattle.loss_marks.specs.Lent.{marksIn}
+use Rattle.loss_sets.specs.Sets.{marksIn}
 
 -- one event: with marks that fit what a step without marks is told; with others 3; refused, nothing lent is changed
 pub record MarkedTold (c : ℕ) (w m : List ℕ) (kind arg number : ℕ) (w' m' told told' : List ℕ) : Type 0 where

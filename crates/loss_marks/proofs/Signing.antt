@@ -12,7 +12,8 @@ use Rattle.device_rules.specs.Device.{State}
 use Rattle.words_state.specs.Packed.{stateIn, Packed}
 use Rattle.words_state.proofs.Judging.{image-fits}
 use Rattle.loss_rules.specs.Marks.{quietAndHealthy, signed, marksFit, signRefused, signOff}
-use Rattle.loss_marks.specs.Lent.{marksIn, Signs}
+use Rattle.loss_sets.specs.Sets.{marksIn}
+use Rattle.loss_marks.specs.Lent.{Signs}
 
 module _ (c : ℕ) (w m : List ℕ) (pin : ℕ) where
   abbrev p : Part

@@ -16,7 +16,8 @@ use Rattle.device_rules.specs.declared.Answer.{Answer}
 use Rattle.device_rules.specs.declared.Answer.the-variants.{Refused}
 use Rattle.words_state.specs.Packed.{stateIn, Packed, Steps}
 use Rattle.loss_rules.specs.Marks.{Marks, isReset, noted, marksAfter, marksFit, markedStep}
-use Rattle.loss_marks.specs.Lent.{marksIn, MarkedSteps}
+use Rattle.loss_sets.specs.Sets.{marksIn}
+use Rattle.loss_marks.specs.Lent.{MarkedSteps}
 
 -- the status set is one of the part's pins
 pub status-small : (c : ℕ) (w : List ℕ) → Packed c w → getD w 19 0 < 2 ^ partOf c .width

@@ -1,24 +1,14 @@
--- The marks that the lent memory holds, and what making them, a step and a sign-off promise.
+-- What a step with marks and a sign-off promise, of the words of a device and the marks beside them.
 use mathlib.Core.Path.{_≡_}
 use mathlib.Core.Bool.{true, false}
 use mathlib.Core.List.{List}
 use Prim.Native.Nat.{ℕ}
-use lib.ListN.{getD}
 use Rattle.map.specs.Map.{partOf}
 use Rattle.device_rules.specs.declared.Answer.{Answer}
 use Rattle.device_rules.specs.declared.Answer.the-variants.{Refused}
 use Rattle.words_state.specs.Packed.{stateIn, Packed, Steps}
-use Rattle.loss_rules.specs.Marks.{Marks, marks, marksFit, marksRefused, newMarks, markedStep, signOff}
-
--- the pins that are marked, and each pin's healthy level
-abbrev pub marksIn : List ℕ → Marks
-marksIn m = marks (getD m 0 0) (getD m 1 0)
-
--- making marks of part c in the memory m, which leaves m': all are set; refused, the memory is as it was
-pub record MakesMarks (c healthy number : ℕ) (m m' : List ℕ) : Type 0 where
-  pub number-is : number ≡ marksRefused (partOf c) healthy
-  pub made : number ≡ 0 → marksIn m' ≡ newMarks (partOf c) healthy
-  pub refused : (number ≡ 0 → ⊥) → m' ≡ m
+use Rattle.loss_rules.specs.Marks.{marksFit, markedStep, signOff}
+use Rattle.loss_sets.specs.Sets.{marksIn}
 
 -- A step from the words w to w' with the marks m, which become m': with marks that fit it is the device's own step, and the marks are those of the rules;
 -- with others it is refused with 3; refused, nothing is changed.

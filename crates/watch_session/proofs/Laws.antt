@@ -34,7 +34,8 @@ use Rattle.trace_session.specs.Tracing.{Session as TraceSession, sessionOf, tra
 use Rattle.trace_session.specs.Tracing.Session.{NoDevice as NotTraced, With as Traced}
 use Rattle.loss_rules.specs.Marks.{Marks, SignedOff, quietAndHealthy, isReset, noted, marksAfter, marksFit, newMarks, markedStep, signRefused, signOff}
 use Rattle.loss_rules.proofs.Laws.{fit-after, fit-signed}
-use Rattle.loss_marks.specs.Lent.{marksIn, MakesMarks, Signs}
+use Rattle.loss_sets.specs.Sets.{marksIn, MakesMarks}
+use Rattle.loss_marks.specs.Lent.{Signs}
 use Rattle.loss_marks.proofs.Stepping.{status-small, by-outcome}
 use Rattle.watch_lines.specs.Watching.{saidBy}
 use Rattle.watch_lines.specs.declared.Said.{Said}

@@ -15,7 +15,7 @@ use Rattle.text.specs.Text.{hexText, Wrote}
 use Rattle.text_logs.specs.Lines.{Reply}
 use Rattle.text_answers.specs.Answers.{digitsOf, unlessRefused, newline, shownText, refusedLine}
 use Rattle.loss_rules.specs.Marks.{Marks, Marked, SignedOff, marksFit, newMarks, markedStep, signOff}
-use Rattle.loss_marks.specs.Lent.{marksIn}
+use Rattle.loss_sets.specs.Sets.{marksIn}
 use Rattle.watch_lines.specs.Watching.{saidBy}
 use Rattle.watch_lines.specs.declared.Said.{Said}
 use Rattle.watch_lines.specs.declared.Said.the-variants.{Device, Event, SignOff, Unreadable}

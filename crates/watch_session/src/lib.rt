@@ -17,7 +17,7 @@ ghost use Rattle.watch_session.specs.Watch.{watchOf, refusalLine, marked
 use device_rules::Answer;
 use device_rules::UNREADABLE;
 use loss_marks::NOT_HEALTHY;
-use loss_marks::SET;
+use loss_sets::SET;
 use trace_session::NO_PART;
 use watch_lines::Said;
 use words::PART;
@@ -74,7 +74,7 @@ fn make(
         × Beside (now (words .exit)) (now (rows .exit)) (now (next .exit)) (now (told .exit)) (now (kept .exit)) ⌝ }
 {
     let end = trace_session::make(words, rows, next, told, kept, part, choice, levels, out, at);
-    loss_marks::make(marks, part, healthy);
+    loss_sets::make(marks, part, healthy);
     put_marks(out, end, part, marks[SET])
 }
 
@@ -99,7 +99,7 @@ fn event_on(
     let before = words[STATUS];
     let resets = loss_marks::is_reset(&*words, kind);
     let end = trace_session::event(words, rows, next, told, kept, kind, arg, out, at);
-    loss_marks::note(marks, resets, before, words[STATUS]);
+    loss_sets::note(marks, resets, before, words[STATUS]);
     put_marks(out, end, words[PART], marks[SET])
 }
 

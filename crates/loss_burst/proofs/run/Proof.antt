@@ -10,7 +10,7 @@ use Rattle.device_rules.specs.declared.Answer.{Answer}
 use Rattle.words_state.proofs.Standing.{named}
 use Rattle.words_device.proofs.Naming.{its-tables}
 use Rattle.words_burst.proofs.Running.{answered, Running, begin, turn, stop, finish}
-use Rattle.loss_marks.specs.Lent.{marksIn}
+use Rattle.loss_sets.specs.Sets.{marksIn}
 use Rattle.loss_burst.proofs.Marking as marking
 use Rattle.loss_burst.proofs.run.Statement.{statement}
 use Rattle.loss_burst.proofs.run.Tie as tie

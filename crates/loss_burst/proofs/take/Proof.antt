@@ -7,7 +7,7 @@ use Rattle.device_rules.specs.Refusals.{eventOf}
 use Rattle.words_state.specs.Packed.{stateIn}
 use Rattle.words_events.specs.Events.{eventAt, wholeOf}
 use Rattle.loss_rules.specs.Marks.{isReset}
-use Rattle.loss_marks.specs.Lent.{marksIn}
+use Rattle.loss_sets.specs.Sets.{marksIn}
 use Rattle.loss_burst.proofs.Marking.{refused-event, taken-event}
 use Rattle.loss_burst.proofs.take.Statement.{statement}
 use Rattle.loss_burst.proofs.take.Tie as tie

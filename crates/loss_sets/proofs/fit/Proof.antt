@@ -1,8 +1,8 @@
--- `loss_marks::fit`: a set of other pins than the part's is over all of them. Assumes nothing.
+-- `loss_sets::fit`: a set of other pins than the part's is over all of them. Assumes nothing.
 use borrow.Author.Needs.{needs}
-use Rattle.loss_marks.proofs.Laws.{set-over, by-healthy}
-use Rattle.loss_marks.proofs.fit.Statement.{statement}
-use Rattle.loss_marks.proofs.fit.Tie as tie
+use Rattle.loss_sets.proofs.Laws.{set-over, by-healthy}
+use Rattle.loss_sets.proofs.fit.Statement.{statement}
+use Rattle.loss_sets.proofs.fit.Tie as tie
 
 returns : tie.Need-returns
 returns c =

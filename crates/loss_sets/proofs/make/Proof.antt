@@ -1,8 +1,8 @@
--- `loss_marks::make`: refused over the part's pins, else all set (`made`). Assumes nothing.
+-- `loss_sets::make`: refused over the part's pins, else all set (`made`). Assumes nothing.
 use borrow.Author.Needs.{needs}
-use Rattle.loss_marks.proofs.Laws.{making-refused, making-taken}
-use Rattle.loss_marks.proofs.make.Statement.{statement}
-use Rattle.loss_marks.proofs.make.Tie as tie
+use Rattle.loss_sets.proofs.Laws.{making-refused, making-taken}
+use Rattle.loss_sets.proofs.make.Statement.{statement}
+use Rattle.loss_sets.proofs.make.Tie as tie
 
 returns : tie.Need-returns
 returns c =
