@@ -14,6 +14,8 @@ target triple = "x86_64-unknown-linux-gnu"
 
 @powers = private unnamed_addr constant [4 x i32] [i32 1, i32 2, i32 4, i32 8], align 4
 @letters = internal constant [4 x i8] c"a\\22;\\00", align 1
+@rows = private local_unnamed_addr constant [2 x [2 x i16]] [[2 x i16] [i16 -1, i16 2], [2 x i16] zeroinitializer], align 2
+@packed = private constant <{ [2 x i8], i64 }> <{ [2 x i8] c"ab", i64 -9 }>, align 1
 
 ; Function Attrs: nounwind
 define internal noundef zeroext i1 @"shelf::is_small"(i64 noundef %a0) #0 {
@@ -133,6 +135,11 @@ UNKNOWN = [
         '@powers = private constant [1 x ptr] [ptr @letters], align 8',
         '@powers = private constant [1 x i64] [i64 ptrtoint (ptr @letters to i64)], align 8',
         '@powers = private constant { i8, i64 } { i8 1, i64 2 }, align 8',
+        '@powers = private constant <{ i8, ptr }> <{ i8 1, ptr @letters }>, align 8',
+        '@powers = private constant [1 x { i8, i64 }] [{ i8, i64 } { i8 1, i64 2 }], align 8',
+        '@powers = private constant [2 x i64] [i64 sub (i64 ptrtoint (ptr @letters to i64), i64 1), i64 2], align 8',
+        '@powers = private constant [1 x double] [double 1.000000e+00], align 8',
+        '@powers = private constant [4 x i32] undef, align 4',
         '@powers = private thread_local constant [1 x i32] [i32 1], align 4',
         '@powers = private constant [4 x i32] [i32 1, i32 2, i32 4, i32 8], section ".fast", align 4',
         '%powers = type { ptr, i64 }',

@@ -3,8 +3,8 @@
 MODULE.ll is the module that the kit hands to its compiler for x86-64. HEADER.ll is what that compiler makes of include/ghixramel.h
 for the other processor: its data layout, its triple, and how C there passes each argument and result. These three are put into the
 module; its code stays as it is. That keeps its meaning only in a module whose code says nothing of a pointer's width, so every line
-has to be of a form listed here: addresses are counted in bytes, memory holds integers and pointers, tables hold integers of one
-width. Any other line, and any call that C sees otherwise than the module has it, stops the program."""
+has to be of a form listed here: addresses are counted in bytes, memory holds integers and pointers, constant tables hold
+integers. Any other line, and any call that C sees otherwise than the module has it, stops the program."""
 
 import re
 import sys
@@ -26,7 +26,9 @@ OF_X86_64 = re.compile(r' "(?:target-cpu|target-features|tune-cpu|probe-stack)"=
 # Copies and fills, which a compiler does itself or asks of the C library that every program has.
 INTRINSIC = r'@llvm\.(?:memmove\.p0\.p0\.i64|memset\.p0\.i64)'
 
-TABLE = rf'{NAME} = (?:private |internal )(?:local_unnamed_addr |unnamed_addr )?constant \[\d+ x {INTEGER}\] (?:zeroinitializer|c"[^"]*"|\[[\w, -]*\]), align \d+'
+# Integers in arrays and packed structs, whose bytes are the same on every processor with the lowest byte first.
+INTEGERS = r'(?:i(?:8|16|32|64)\b|-?\b\d+\b|x\b|c"[^"]*"|zeroinitializer\b|<\{|\}>|[\[\], ])+'
+TABLE = rf'{NAME} = (?:private |internal )(?:local_unnamed_addr |unnamed_addr )?constant {INTEGERS}, align \d+'
 EXPORT = rf'define (?:dso_local )?({RESULT}) @(\w+)\(({PASSED})\) (#\d+) \{{'
 
 FORMS = [re.compile(form) for form in (
