@@ -1,285 +1,110 @@
--- A piece of the events is its first line and the rest, and what that line expects is judged. Assumes nothing.
+-- Whole texts: the header, all events, and their end. Assumes nothing.
 use mathlib.Core.Path.{_≡_, refl, ap, sym, _∙_}
-use mathlib.Core.Bool.{Bool, true, false, cond}
-use mathlib.Core.List.{List, [], _∷_, _++_, append-assoc, append-nil}
-use Prim.Native.Nat.{ℕ, suc, _+_, _-_, _<_, _≤_}
+use mathlib.Core.Bool.{true}
+use mathlib.Core.List.{List, [], _∷_, _++_, append-nil}
+use Prim.Native.Nat.{ℕ, _+_, _-_, _≤_}
 use native.Mathlib.Omega.{arith}
-use borrow.Author.Tests.{ltb-true, ltb-false}
-use lib.Dec.{eqb, ltb}
-use lib.ListN.{length, take, drop, length-append, length-drop}
-use lib.Seq.{sets-eq, take-append-seam, drop-drop}
-use Rattle.text.specs.Text.{Wrote}
-use Rattle.text.proofs.Laws.{wrote-length}
-use Rattle.text_pieces.specs.Pieces.{newlineAt, takenOf}
-use Rattle.trace_lines.specs.Lines.{lineOf}
+use lib.ListN.{length, take, drop, length-drop}
+use lib.Seq.{drop-drop, drop-length}
+use Rattle.text_pieces.specs.Pieces.{newlineAt}
 use Rattle.text.proofs.Laws.{rest as tail}
-use Rattle.trace_session.specs.Tracing.{partIn, answerTo}
-use Rattle.trace_session.proofs.Laws.{traced-short}
-use Rattle.text_logs.specs.Lines.{linesOf}
-use Rattle.text_logs.specs.Pieces.{grown, andThen, given as given-by, firstGiven as first-by, atEnd as end-by}
-use Rattle.text_logs.proofs.Laws.{given-first}
-use Rattle.text_logs.proofs.Whole.{then-then, given-append}
-use Rattle.text_logs.proofs.Feeding.{taken-some}
-use Rattle.trace_logs.specs.Pieces.{Reading, Given, ended, given, firstGiven, Gives, lastText, toEnd, Ends}
-use Rattle.compare_lines.specs.Comparing.{agrees, leftOver, found, foundIn}
-use Rattle.compare_lines.specs.Judging.{OneLine, same, Judges}
-use Rattle.compare_lines.proofs.Plain.{answer-one}
-use Rattle.compare_logs.specs.Meeting.{goesOn, Seen, Unless, Meets, Settles}
+use Rattle.trace_logs.specs.Logs.{header}
+use Rattle.trace_logs.specs.Pieces.{Reading, opened}
+use Rattle.compare_lines.specs.Comparing.{Found, firstLine, compared, partFrom}
+use Rattle.compare_lines.specs.Judging.{same, Judges}
+use Rattle.compare_pieces.specs.Meeting.{goesOn, Unless, Meets, Settles}
+use Rattle.compare_pieces.proofs.Laws.{There}
+use Rattle.compare_pieces.proofs.Whole.{header-agrees, whole-header}
+use Rattle.compare_logs.specs.Finding.{FindsOn, LineAt, Finds}
 
--- a line that is written at the beginning of a memory for one, as the code names it
-pub record There (text out left : List ℕ) (end : ℕ) : Type 0 where
-  pub line : take (end - 0) left ≡ text
-  pub long : length left ≡ length out
-  pub within : end ≤ length left
-  pub ends : end ≡ length text
+-- ---- after the header
+module _ {r : Reading} (start : r ≡ opened) (events rest : List ℕ) where
+  whole : (n : ℕ) → goesOn n r (events ++ []) (rest ++ []) ≡ goesOn n opened events rest
+  whole n =
+      ap (λ (x : Reading). goesOn n x (events ++ []) (rest ++ [])) start ∙ ap (λ (x : List ℕ). goesOn n opened x (rest ++ [])) (append-nil events)
+      ∙ ap (goesOn n opened events) (append-nil rest)
 
-pub there : {out text left : List ℕ} {end : ℕ} → Wrote out 0 text end left → length text ≤ 26 → 26 ≤ length out → There text out left end
-there {out} {text} {left} {end} w short room =
-    let n : end - 0 ≡ length text = omega (arith, w .ends) in
+  pub finds-decided : {verdict lines told taken : ℕ} {after : Reading} → Meets (Unless true) r events rest verdict lines told taken after → (verdict ≡ same → ⊥) → FindsOn events rest verdict (drop taken rest)
+  finds-decided {verdict} {lines} {told} {taken} m h =
+      let found : (n : ℕ) → goesOn n opened events rest ≡ record { verdict = verdict; agreed = n + lines; left = drop taken rest ++ [] } =
+      λ n. (sym (whole n) ∙ m .decides h n [] [] (λ u. refl)) in
+      record {
+        verdict-on = λ n. sym (ap (λ (f : Found). f .verdict) (found n));
+        left-on = λ n. sym (ap (λ (f : Found). f .left) (found n) ∙ append-nil (drop taken rest));
+      }
+
+  module _ {lines told taken : ℕ} {after : Reading} (m : Meets (Unless true) r events rest same lines told taken after) (all : told ≡ length events)
+      {verdict lines′ taken′ : ℕ} (s : Settles after (take (length rest - taken) (drop taken rest)) verdict lines′ taken′) where
+    settled : Settles after (drop taken rest) verdict lines′ taken′
+    settled = rw (tail taken rest) at s
+
+    settled-on : (n : ℕ) → goesOn n opened events rest ≡ record { verdict = verdict; agreed = n + lines + lines′; left = drop taken′ (drop taken rest) ++ [] }
+    settled-on n =
+        sym (whole n) ∙ m .goes-on refl n [] [] (λ u. refl)
+        ∙ ap (λ (x : List ℕ). goesOn (n + lines) after x (drop taken rest ++ [])) (append-nil (drop told events) ∙ ap (λ (k : ℕ). drop k events) all ∙ drop-length events)
+        ∙ settled .settles (n + lines) [] (λ u. refl)
+
+    pub finds-settled : FindsOn events rest verdict (drop (taken + taken′) rest)
+    finds-settled = record {
+      verdict-on = λ n. sym (ap (λ (f : Found). f .verdict) (settled-on n));
+      left-on = λ n. sym (ap (λ (f : Found). f .left) (settled-on n) ∙ append-nil (drop taken′ (drop taken rest)) ∙ drop-drop taken′ taken rest);
+    }
+
+    pub settled-within : taken + taken′ ≤ length rest
+    settled-within = omega (arith, settled .within, length-drop taken rest, m .within-answers)
+
+-- ---- with the header
+finds : (events answers : List ℕ) {verdict from to : ℕ} → verdict ≡ compared events answers .verdict → drop from answers ≡ compared events answers .left → from ≤ length answers → LineAt answers from to → Finds events answers verdict from to
+finds events answers {verdict} {from} {to} v l h a =
+    let f : from ≡ partFrom answers (compared events answers) = omega (arith, ap length l, length-drop from answers) in
     record {
-      line = ap (λ (k : ℕ). take k left) n ∙ ap (take (length text)) (w .holds ∙ sets-eq text out 0 (omega arith)) ∙ take-append-seam text (drop (0 + length text) out);
-      long = wrote-length w;
-      within = omega (arith, w .ends, wrote-length w);
-      ends = omega (arith, w .ends);
+      verdict-is = v;
+      from-is = f;
+      to-is = a .ends ∙ ap (λ (x : List ℕ). from + newlineAt x) l ∙ ap (λ (k : ℕ). k + newlineAt (compared events answers .left)) f;
+      lies-there = l;
+      ordered = a .ordered;
+      within = a .within;
     }
 
-pub some-there : {text out left : List ℕ} {end : ℕ} → There text out left end → (end ≡ 0 → ⊥) → 0 < length (take (end - 0) left)
-some-there {text} {out} {left} {end} t some = omega (arith, ap length (t .line), t .ends, some)
+-- by all of them
+module _ (events answers : List ℕ) {out left : List ℕ} {end : ℕ} (t : There header out left end) {verdict taken : ℕ} (j : Judges (take (end - 0) left) answers verdict taken) where
+  all : compared events answers ≡ compared events (answers ++ [])
+  all = ap (compared events) (sym (append-nil answers))
 
-pub nothing : (s : List ℕ) → length s ≡ 0 → s ≡ []
-nothing [] e = refl
-nothing (b ∷ s) e = absurd (omega arith)
+  pub finds-header : (verdict ≡ same → ⊥) → {to : ℕ} → LineAt answers 0 to → Finds events answers verdict 0 to
+  finds-header h a =
+      let e : compared events answers ≡ record { verdict = verdict; agreed = 0; left = answers ++ [] } = all ∙ whole-header events answers [] t j (λ u. refl) h in
+      finds events answers (sym (ap (λ (f : Found). f .verdict) e)) (sym (ap (λ (f : Found). f .left) e ∙ append-nil answers)) (omega arith) a
 
--- what the first line of a piece expects is one line, or nothing
-first-short : (r : Reading) (events : List ℕ) → length (firstGiven r events .text) ≤ 26
-unfolding first-by
-first-short r events = go (ltb (newlineAt events) (length events))
-  where
-    line : Reading
-    line = grown r (take (newlineAt events) events)
+  pub finds-rest : verdict ≡ same → {found from to : ℕ} → FindsOn events (take (length answers - taken) (drop taken answers)) found (drop from (take (length answers - taken) (drop taken answers))) → from ≤ length (take (length answers - taken) (drop taken answers))
+      → LineAt answers (taken + from) to → Finds events answers found (taken + from) to
+  finds-rest e {found} {from} {to} f h a =
+      let g : FindsOn events (drop taken answers) found (drop from (drop taken answers)) = rw (tail taken answers) at f in
+      let c : compared events answers ≡ goesOn 1 opened events (drop taken answers) =
+      all ∙ header-agrees events answers [] t j (λ u. refl) e ∙ ap (goesOn 1 opened events) (append-nil (drop taken answers)) in
+      finds events answers (g .verdict-on 1 ∙ sym (ap (λ (x : Found). x .verdict) c)) (sym (drop-drop from taken answers) ∙ g .left-on 1 ∙ sym (ap (λ (x : Found). x .left) c))
+      (omega (arith, h, ap length (tail taken answers), length-drop taken answers, j .within)) a
 
-    go : (t : Bool) → length (cond t (ended line) (record { text = []; after = grown r events }) .text) ≤ 26
-    go true = traced-short (line .session) (lineOf (partIn (line .session)) (line .begun))
-    go false = omega arith
-
-first-one : (r : Reading) (events : List ℕ) → (length (firstGiven r events .text) ≡ 0 → ⊥) → OneLine (firstGiven r events .text)
-unfolding first-by
-first-one r events = go (ltb (newlineAt events) (length events))
-  where
-    line : Reading
-    line = grown r (take (newlineAt events) events)
-
-    go : (t : Bool) → (length (cond t (ended line) (record { text = []; after = grown r events }) .text) ≡ 0 → ⊥) → OneLine (cond t (ended line) (record { text = []; after = grown r events }) .text)
-    go true some = answer-one (line .session) (lineOf (partIn (line .session)) (line .begun))
-    go false some = absurd (some refl)
-
--- where the code put it
-pub first-there : (r : Reading) (events : List ℕ) {words₀ out left words held : List ℕ} {end len : ℕ} → Gives (firstGiven r events) words₀ out 0 end left words held len → 26 ≤ length out
-    → There (firstGiven r events .text) out left end
-first-there r events g room = there (g .gives .wrote) (first-short r events) room
-
-module _ (r : Reading) (events : List ℕ) (small : length (r .begun) ≤ 33) where
-  -- what it expects comes first, whatever follows the piece
-  first-then : (later : List ℕ) → toEnd (given r (events ++ later)) ≡ firstGiven r events .text ++ toEnd (given (firstGiven r events .after) (drop (takenOf events) events ++ later))
-  first-then later =
-      let first : Given = firstGiven r events in
-      let rest : List ℕ = drop (takenOf events) events in
-      let g : Given = given (first .after) rest in
-      let all : given r (events ++ later) ≡ andThen (first .text) (given (first .after) (rest ++ later)) =
-      given-append answerTo r events later ∙ ap (λ (x : Given). andThen (x .text) (given (x .after) later)) (given-first answerTo r events small)
-      ∙ sym (then-then answerTo (first .text) (g .text) (given (g .after) later)) ∙ ap (andThen (first .text)) (sym (given-append answerTo (first .after) rest later)) in
-      ap toEnd all
-      ∙ append-assoc (first .text) (given (first .after) (rest ++ later) .text) (lastText (given (first .after) (rest ++ later) .after))
-
-  module _ (some : 0 < length events) (answers : List ℕ) {after : Reading} {told : ℕ} (goes : after ≡ firstGiven r events .after) (takes : told ≡ takenOf events) where
-    -- what is found after it
-    on : (n k : ℕ) (later rest : List ℕ) → n ≡ k → foundIn n (toEnd (given (firstGiven r events .after) (drop (takenOf events) events ++ later))) rest ≡ goesOn k after (drop told events ++ later) rest
-    on n k later rest e =
-        ap (λ (x : ℕ). foundIn x (toEnd (given (firstGiven r events .after) (drop (takenOf events) events ++ later))) rest) e
-        ∙ ap (λ (x : Reading). foundIn k (toEnd (given x (drop (takenOf events) events ++ later))) rest) (sym goes)
-        ∙ ap (λ (x : ℕ). foundIn k (toEnd (given after (drop x events ++ later))) rest) (sym takes)
-
-    pub meets-nothing : length (firstGiven r events .text) ≡ 0 → Meets (Seen answers) r events answers same 0 told 0 after
-    meets-nothing none = record {
-      within-events = omega (arith, taken-some events some .1);
-      within-answers = omega arith;
-      few = omega arith;
-      goes-on = λ v n later more seen. (
-          ap (λ (x : List ℕ). foundIn n x (answers ++ more)) (first-then later ∙ ap (λ (x : List ℕ). x ++ toEnd (given (firstGiven r events .after) (drop (takenOf events) events ++ later))) (nothing (firstGiven r events .text) none))
-          ∙ on n (n + 0) later (answers ++ more) (omega arith));
-      decides = λ v. absurd (v refl);
-    }
-
-    module _ {out left : List ℕ} {end : ℕ} (t : There (firstGiven r events .text) out left end) (there-is : end ≡ 0 → ⊥) {verdict taken : ℕ} (j : Judges (take (end - 0) left) answers verdict taken) where
-      abbrev line : List ℕ
-      line = take (end - 0) left
-
-      is : line ≡ firstGiven r events .text
-      is = t .line
-
-      one : OneLine line
-      one = rw (sym is) at (first-one r events (λ z. there-is (t .ends ∙ z)))
-
-      all-seen : (more : List ℕ) → Seen answers more → length answers ≤ length line → more ≡ []
-      all-seen more seen h = seen (omega (arith, ap length is, first-short r events))
-
-      expects : (n : ℕ) (later rest : List ℕ) → goesOn n r (events ++ later) rest ≡ foundIn n (line ++ toEnd (given (firstGiven r events .after) (drop (takenOf events) events ++ later))) rest
-      expects n later rest =
-          ap (λ (x : List ℕ). foundIn n x rest) (first-then later)
-          ∙ ap (λ (x : List ℕ). foundIn n (x ++ toEnd (given (firstGiven r events .after) (drop (takenOf events) events ++ later))) rest) (sym is)
-
-      pub meets-line : verdict ≡ same → Meets (Seen answers) r events answers same 1 told taken after
-      meets-line e = record {
-        within-events = omega (arith, taken-some events some .1);
-        within-answers = j .within;
-        few = omega (arith, taken-some events some .0);
-        goes-on = λ v n later more seen. (
-            expects n later (answers ++ more)
-            ∙ j .goes-on e one n (toEnd (given (firstGiven r events .after) (drop (takenOf events) events ++ later))) more (all-seen more seen)
-            ∙ on (suc n) (n + 1) later (drop taken answers ++ more) (omega arith));
-        decides = λ v. absurd (v refl);
-      }
-
-      pub meets-verdict : (verdict ≡ same → ⊥) → (any : Reading) → Meets (Seen answers) r events answers verdict 0 0 0 any
-      meets-verdict h any = record {
-        within-events = omega arith;
-        within-answers = omega arith;
-        few = omega arith;
-        goes-on = λ v. absurd (h v);
-        decides = λ v n later more seen. (
-            let z : n ≡ n + 0 = omega arith in
-            expects n later (answers ++ more)
-            ∙ j .decides h one n (toEnd (given (firstGiven r events .after) (drop (takenOf events) events ++ later))) more (all-seen more seen)
-            ∙ ap (λ (k : ℕ). record { verdict = verdict; agreed = k; left = answers ++ more }) z);
-      }
-
--- ---- one line after the other
-pub meets-start : (follows : List ℕ → Type 0) (r : Reading) (events answers : List ℕ) → Meets follows r events answers same 0 0 0 r
-meets-start follows r events answers = record {
-  within-events = omega arith;
-  within-answers = omega arith;
-  few = omega arith;
-  goes-on = λ v n later more f. (let z : n ≡ n + 0 = omega arith in ap (λ (k : ℕ). goesOn k r (events ++ later) (answers ++ more)) z);
-  decides = λ v. absurd (v refl);
+-- the line that begins at a place
+pub line-here : (answers : List ℕ) (from len : ℕ) → from ≤ length answers → len ≡ newlineAt (take (length answers - from) (drop from answers)) → len ≤ length (take (length answers - from) (drop from answers)) → LineAt answers from (from + len)
+line-here answers from len h e l = record {
+  ends = ap (λ (k : ℕ). from + k) (e ∙ ap newlineAt (tail from answers));
+  ordered = omega arith;
+  within = omega (arith, l, ap length (tail from answers), length-drop from answers);
 }
 
--- and then what a call makes of the rests, as the code names them
-pub meets-then : {last : Bool} {r between after : Reading} {events answers : List ℕ} {lines told taken : ℕ} → Meets (Unless last) r events answers same lines told taken between
-    → (length answers - taken ≤ 26 → last ≡ true) → {verdict lines′ told′ taken′ : ℕ}
-    → Meets (Seen (take (length answers - taken) (drop taken answers))) between (take (length events - told) (drop told events)) (take (length answers - taken) (drop taken answers)) verdict lines′ told′ taken′ after
-    → Meets (Unless last) r events answers verdict (lines + lines′) (told + told′) (taken + taken′) after
-meets-then {last} {r} {between} {after} {events} {answers} {lines} {told} {taken} m few {verdict} {lines′} {told′} {taken′} given-step =
-    record {
-      within-events = omega (arith, s .within-events, length-drop told events, m .within-events);
-      within-answers = omega (arith, s .within-answers, length-drop taken answers, m .within-answers);
-      few = omega (arith, s .few, m .few);
-      goes-on = λ v n later more u. (
-          m .goes-on refl n later more u ∙ s .goes-on v (n + lines) later more (seen more u)
-          ∙ ap (λ (k : ℕ). goesOn k after (drop told′ (drop told events) ++ later) (drop taken′ (drop taken answers) ++ more)) (sum n)
-          ∙ ap (λ (x : List ℕ). goesOn (n + (lines + lines′)) after (x ++ later) (drop taken′ (drop taken answers) ++ more)) (drop-drop told′ told events)
-          ∙ ap (λ (x : List ℕ). goesOn (n + (lines + lines′)) after (drop (told + told′) events ++ later) (x ++ more)) (drop-drop taken′ taken answers));
-      decides = λ v n later more u. (
-          m .goes-on refl n later more u ∙ s .decides v (n + lines) later more (seen more u)
-          ∙ ap (λ (k : ℕ). record { verdict = verdict; agreed = k; left = drop taken′ (drop taken answers) ++ more }) (sum n)
-          ∙ ap (λ (x : List ℕ). record { verdict = verdict; agreed = n + (lines + lines′); left = x ++ more }) (drop-drop taken′ taken answers));
-    }
-  where
-    s : Meets (Seen (drop taken answers)) between (drop told events) (drop taken answers) verdict lines′ told′ taken′ after
-    s = rw (tail taken answers, tail told events) at given-step
+pub finds-as : {events answers : List ℕ} {verdict verdict′ from from′ to : ℕ} → verdict′ ≡ verdict → from′ ≡ from → Finds events answers verdict from to → Finds events answers verdict′ from′ to
+finds-as v e f = rw (v, e) f
 
-    seen : (more : List ℕ) → Unless last more → Seen (drop taken answers) more
-    seen more u h = u (few (omega (arith, length-drop taken answers, h)))
+-- the part, as the code names it
+part-long : (events answers : List ℕ) {verdict from to : ℕ} → Finds events answers verdict from to → to - from ≡ newlineAt (compared events answers .left)
+part-long events answers f = omega (arith, f .from-is, f .to-is)
 
-    sum : (n : ℕ) → n + lines + lines′ ≡ n + (lines + lines′)
-    sum n = omega arith
+pub part-is : (events answers : List ℕ) {verdict from to : ℕ} → Finds events answers verdict from to → take (to - from) (drop from answers) ≡ firstLine (compared events answers .left)
+part-is events answers {verdict} {from} {to} f =
+    ap (λ (k : ℕ). take k (drop from answers)) (part-long events answers f) ∙ ap (take (newlineAt (compared events answers .left))) (f .lies-there)
 
-pub meets-on : {follows : List ℕ → Type 0} {r after : Reading} {events answers : List ℕ} {verdict lines told taken : ℕ} → verdict ≡ same → Meets follows r events answers verdict lines told taken after
-    → Meets follows r events answers same lines told taken after
-meets-on e m = rw e at m
-
-pub rest-some : (s : List ℕ) (at : ℕ) → at < length s → 0 < length (take (length s - at) (drop at s))
-rest-some s at h = omega (arith, ap length (tail at s), length-drop at s)
-
--- ---- the end of the events
-last-short : (r : Reading) → length (lastText r) ≤ 26
-unfolding end-by
-last-short r = go (eqb (length (r .begun)) 0)
-  where
-    go : (t : Bool) → length (cond t (record { text = []; after = r }) (ended r) .text) ≤ 26
-    go true = omega arith
-    go false = traced-short (r .session) (lineOf (partIn (r .session)) (r .begun))
-
-last-one : (r : Reading) → (length (lastText r) ≡ 0 → ⊥) → OneLine (lastText r)
-unfolding end-by
-last-one r = go (eqb (length (r .begun)) 0)
-  where
-    go : (t : Bool) → (length (cond t (record { text = []; after = r }) (ended r) .text) ≡ 0 → ⊥) → OneLine (cond t (record { text = []; after = r }) (ended r) .text)
-    go true some = absurd (some refl)
-    go false some = answer-one (r .session) (lineOf (partIn (r .session)) (r .begun))
-
-pub last-there : (r : Reading) {words₀ out left words : List ℕ} {end : ℕ} → Ends r words₀ out 0 end left words → 26 ≤ length out → There (lastText r) out left end
-last-there r e room = there (e .ends .wrote) (last-short r) room
-
--- no line is expected any more
-found-rest : (n : ℕ) (rest : List ℕ) (verdict : ℕ) → (length rest ≡ 0 → verdict ≡ agrees) → (0 < length rest → verdict ≡ leftOver) → foundIn n [] rest ≡ record { verdict = verdict; agreed = n; left = rest }
-unfolding found linesOf
-found-rest n [] verdict none some = ap (λ (v : ℕ). record { verdict = v; agreed = n; left = [] }) (sym (none refl))
-found-rest n (b ∷ rest) verdict none some = ap (λ (v : ℕ). record { verdict = v; agreed = n; left = b ∷ rest }) (sym (some (omega arith)))
-
-module _ (r : Reading) (answers : List ℕ) where
-  -- what is left of the answers that are seen and what follows them, where this verdict speaks of those
-  rest-with : (n taken verdict : ℕ) (more : List ℕ) → Seen answers more → taken ≤ 26 → taken ≤ length answers
-      → (length answers - taken ≡ 0 → verdict ≡ agrees) → (0 < length answers - taken → verdict ≡ leftOver)
-      → foundIn n [] (drop taken answers ++ more) ≡ record { verdict = verdict; agreed = n; left = drop taken answers ++ more }
-  rest-with n taken verdict more seen short within none some =
-      found-rest n (drop taken answers ++ more) verdict
-      (λ z. none (omega (arith, z, length-append (drop taken answers) more, length-drop taken answers)))
-      (λ s. go (ltb 26 (length answers)) refl s)
-    where
-      go : (t : Bool) → ltb 26 (length answers) ≡ t → 0 < length (drop taken answers ++ more) → verdict ≡ leftOver
-      go true e s = some (omega (arith, ltb-true 26 (length answers) e))
-      go false e s =
-          let z : more ≡ [] = seen (ltb-false 26 (length answers) e) in
-          some (omega (arith, s, ap length z, length-append (drop taken answers) more, length-drop taken answers))
-
-  pub settles-none : {verdict : ℕ} → length (lastText r) ≡ 0 → (length answers ≡ 0 → verdict ≡ agrees) → (0 < length answers → verdict ≡ leftOver) → Settles r answers verdict 0 0
-  unfolding given-by
-  settles-none {verdict} empty none some = record {
-    within = omega arith;
-    settles = λ n more seen. (
-        let z : n ≡ n + 0 = omega arith in
-        ap (λ (x : List ℕ). foundIn n x (answers ++ more)) (nothing (lastText r) empty)
-        ∙ rest-with n 0 verdict more seen (omega arith) (omega arith) (λ e. none (omega (arith, e))) (λ e. some (omega (arith, e)))
-        ∙ ap (λ (k : ℕ). record { verdict = verdict; agreed = k; left = answers ++ more }) z);
-  }
-
-  module _ {out left : List ℕ} {end : ℕ} (t : There (lastText r) out left end) (there-is : end ≡ 0 → ⊥) {judged taken : ℕ} (j : Judges (take (end - 0) left) answers judged taken) where
-    one-last : OneLine (take (end - 0) left)
-    one-last = rw (sym (t .line)) at (last-one r (λ z. there-is (t .ends ∙ z)))
-
-    last-seen : (more : List ℕ) → Seen answers more → length answers ≤ length (take (end - 0) left) → more ≡ []
-    last-seen more seen h = seen (omega (arith, ap length (t .line), last-short r))
-
-    last-expects : (n : ℕ) (rest : List ℕ) → foundIn n (lastText r) rest ≡ foundIn n (take (end - 0) left ++ []) rest
-    last-expects n rest = ap (λ (x : List ℕ). foundIn n x rest) (sym (t .line) ∙ sym (append-nil (take (end - 0) left)))
-
-    pub settles-line : judged ≡ same → {verdict : ℕ} → (length answers - taken ≡ 0 → verdict ≡ agrees) → (0 < length answers - taken → verdict ≡ leftOver) → Settles r answers verdict 1 taken
-    unfolding given-by
-    settles-line e {verdict} none some = record {
-      within = j .within;
-      settles = λ n more seen. (
-          let z : suc n ≡ n + 1 = omega arith in
-          last-expects n (answers ++ more) ∙ j .goes-on e one-last n [] more (last-seen more seen)
-          ∙ rest-with (suc n) taken verdict more seen (omega (arith, j .short, ap length (t .line), last-short r)) (j .within) none some
-          ∙ ap (λ (k : ℕ). record { verdict = verdict; agreed = k; left = drop taken answers ++ more }) z);
-    }
-
-    pub settles-verdict : (judged ≡ same → ⊥) → Settles r answers judged 0 0
-    unfolding given-by
-    settles-verdict h = record {
-      within = omega arith;
-      settles = λ n more seen. (
-          let z : n ≡ n + 0 = omega arith in
-          last-expects n (answers ++ more) ∙ j .decides h one-last n [] more (last-seen more seen)
-          ∙ ap (λ (k : ℕ). record { verdict = judged; agreed = k; left = answers ++ more }) z);
-    }
+-- and as two numbers
+pub part-told : (events answers : List ℕ) {verdict from to : ℕ} → Finds events answers verdict from to → from ∷ (to - from) ∷ [] ≡ partFrom answers (compared events answers) ∷ newlineAt (compared events answers .left) ∷ []
+part-told events answers {verdict} {from} {to} f =
+    ap (λ (k : ℕ). k ∷ (to - from) ∷ []) (f .from-is) ∙ ap (λ (k : ℕ). partFrom answers (compared events answers) ∷ k ∷ []) (part-long events answers f)

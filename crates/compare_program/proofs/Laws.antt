@@ -4,7 +4,7 @@ use mathlib.Core.List.{List}
 use Prim.Native.Nat.{ℕ, _-_}
 use lib.ListN.{length, take, drop, length-drop}
 use Rattle.text.proofs.Laws.{rest as tail}
-use Rattle.compare_logs.specs.Meeting.{Holding}
+use Rattle.compare_pieces.specs.Meeting.{Holding}
 
 pub holding-on : {words rows next told kept held : List ℕ} {len len′ : ℕ} → len′ ≡ len → Holding words rows next told kept held len → Holding words rows next told kept held len′
 holding-on e h = rw e h

@@ -2,14 +2,14 @@
 ghost use mathlib.Core.Path.{_≡_};
 ghost use Prim.Native.Nat.{_+_, _≤_};
 ghost use lib.ListN.{length};
-ghost use Rattle.compare_logs.specs.Meeting.{Holding};
+ghost use Rattle.compare_pieces.specs.Meeting.{Holding};
 use compare_lines::AGREES;
 use compare_lines::DEPARTS;
 use compare_lines::ENDS_EARLY;
 use compare_lines::SAME;
-use compare_logs::ENOUGH;
-use compare_logs::LONGEST;
-use compare_logs::Met;
+use compare_pieces::ENOUGH;
+use compare_pieces::LONGEST;
+use compare_pieces::Met;
 use libc::STDERR_FILENO;
 use libc::STDOUT_FILENO;
 
@@ -272,7 +272,7 @@ fn ready(s: Stand, answers: i32, seen: &mut [u8]) -> Stand
     requires { ⌜ (s .at ≤ s .have) × (s .have ≤ length (now seen)) × (64 ≤ length (now seen)) ⌝ }
     ensures { λ y. ⌜ (y .len ≡ s .len) × (y .at ≤ y .have) × (y .have ≤ length (now (seen .exit))) × (length (now (seen .exit)) ≡ length (now (seen .entry))) ⌝ }
 {
-    if !compare_logs::wants(s.have - s.at, s.last) {
+    if !compare_pieces::wants(s.have - s.at, s.last) {
         return s;
     }
     let more = fill(answers, seen, s.at, s.have);
@@ -333,7 +333,7 @@ fn meet_piece(
         }
         let at = s.at;
         let have = s.have;
-        let met = compare_logs::meet(
+        let met = compare_pieces::meet(
             words,
             rows,
             next,
@@ -389,7 +389,7 @@ fn end_events(
     let at = s.at;
     let have = s.have;
     let len = s.len;
-    let met = compare_logs::finish(
+    let met = compare_pieces::finish(
         words,
         rows,
         next,

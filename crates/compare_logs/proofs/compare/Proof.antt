@@ -1,6 +1,6 @@
 -- `compare_logs::compare`: what was found, and the part of the answers from there to there. Assumes nothing.
 use borrow.Author.Needs.{needs}
-use Rattle.compare_logs.proofs.Whole.{part-is}
+use Rattle.compare_logs.proofs.Laws.{part-is}
 use Rattle.compare_logs.proofs.compare.Statement.{statement}
 use Rattle.compare_logs.proofs.compare.Tie as tie
 

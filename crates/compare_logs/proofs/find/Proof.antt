@@ -1,8 +1,9 @@
 -- `compare_logs::find`: the header departs or is missing, or the rest decides. Assumes nothing.
 use borrow.Author.Needs.{needs}
 use mathlib.Core.Path.{refl}
-use Rattle.compare_logs.proofs.Laws.{some-there}
-use Rattle.compare_logs.proofs.Whole.{header-there, header-some, finds-header, finds-rest, finds-as}
+use Rattle.compare_pieces.proofs.Laws.{some-there}
+use Rattle.compare_pieces.proofs.Whole.{header-there, header-some}
+use Rattle.compare_logs.proofs.Laws.{finds-header, finds-rest, finds-as}
 use Rattle.compare_logs.proofs.find.Statement.{statement}
 use Rattle.compare_logs.proofs.find.Tie as tie
 

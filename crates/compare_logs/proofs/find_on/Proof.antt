@@ -3,8 +3,8 @@ use borrow.Author.Needs.{needs}
 use native.Mathlib.Omega.{arith}
 use mathlib.Core.Path.{refl, _∙_}
 use mathlib.Core.List.{[]}
-use Rattle.compare_logs.proofs.Laws.{meets-on}
-use Rattle.compare_logs.proofs.Whole.{finds-decided, finds-settled, settled-within}
+use Rattle.compare_pieces.proofs.Laws.{meets-on}
+use Rattle.compare_logs.proofs.Laws.{finds-decided, finds-settled, settled-within}
 use Rattle.compare_logs.proofs.find_on.Statement.{statement}
 use Rattle.compare_logs.proofs.find_on.Tie as tie
 

@@ -1,7 +1,7 @@
 -- `compare_logs::line_at`: the line ends at the first newline from its place on, or with the answers. Assumes nothing.
 use borrow.Author.Needs.{needs}
 use mathlib.Core.Path.{refl}
-use Rattle.compare_logs.proofs.Whole.{line-here}
+use Rattle.compare_logs.proofs.Laws.{line-here}
 use Rattle.compare_logs.proofs.line_at.Statement.{statement}
 use Rattle.compare_logs.proofs.line_at.Tie as tie
 

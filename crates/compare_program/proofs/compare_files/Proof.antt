@@ -1,8 +1,8 @@
 -- `compare_program::compare_files`: the header is a line. Assumes nothing.
 use Prim.Native.Nat.{ℕ}
 use borrow.Author.Needs.{needs}
-use Rattle.compare_logs.proofs.Laws.{some-there}
-use Rattle.compare_logs.proofs.Whole.{header-there, header-some}
+use Rattle.compare_pieces.proofs.Laws.{some-there}
+use Rattle.compare_pieces.proofs.Whole.{header-there, header-some}
 use lib.ListN.{length-replicate}
 use Rattle.compare_program.proofs.compare_files.Statement.{statement}
 use Rattle.compare_program.proofs.compare_files.Tie as tie

@@ -4,7 +4,7 @@ use Prim.Native.Nat.{_≤_}
 use native.Mathlib.Omega.{arith}
 use borrow.Author.Needs.{needs}
 use Rattle.compare_program.proofs.Laws.{holding-on, rest-long}
-use Rattle.compare_logs.specs.Meeting.{Holding}
+use Rattle.compare_pieces.specs.Meeting.{Holding}
 use lib.ListN.{length}
 use Rattle.compare_program.proofs.meet_piece.Statement.{statement}
 use Rattle.compare_program.proofs.meet_piece.Tie as tie

@@ -3,7 +3,7 @@ use mathlib.Core.Path.{_≡_, refl, _∙_}
 use Prim.Native.Nat.{ℕ, _≤_}
 use native.Mathlib.Omega.{arith}
 use borrow.Author.Needs.{needs}
-use Rattle.compare_logs.specs.Meeting.{Holding}
+use Rattle.compare_pieces.specs.Meeting.{Holding}
 use lib.ListN.{length, length-replicate}
 use Rattle.compare_program.proofs.run_events.Statement.{statement}
 use Rattle.compare_program.proofs.run_events.Tie as tie

@@ -3,7 +3,7 @@ use borrow.Author.Needs.{needs}
 use mathlib.Core.Path.{refl, ap}
 use mathlib.Core.List.{[], _∷_}
 use Prim.Native.Nat.{ℕ}
-use Rattle.compare_logs.proofs.Whole.{part-told}
+use Rattle.compare_logs.proofs.Laws.{part-told}
 use Rattle.ghixramel.proofs.ghixramel_compare.Statement.{statement}
 use Rattle.ghixramel.proofs.ghixramel_compare.Tie as tie
 

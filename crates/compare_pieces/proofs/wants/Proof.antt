@@ -1,11 +1,11 @@
--- `compare_logs::wants`: the last answers want no more, and 64 are more than any line. Assumes nothing.
+-- `compare_pieces::wants`: the last answers want no more, and 64 are more than any line. Assumes nothing.
 use native.Mathlib.Omega.{arith}
 use mathlib.Core.Path.{refl}
 use mathlib.Core.Bool.{false}
 use borrow.Author.Tests.{ltb-false}
 use Rattle.bits.proofs.Decide.{clash}
-use Rattle.compare_logs.proofs.wants.Statement.{statement}
-use Rattle.compare_logs.proofs.wants.Tie as tie
+use Rattle.compare_pieces.proofs.wants.Statement.{statement}
+use Rattle.compare_pieces.proofs.wants.Tie as tie
 
 returns : tie.Need-returns
 returns c = (λ h. clash false h refl, λ h l. c .if1 .taken)

@@ -1,13 +1,13 @@
--- `compare_logs::meet_line`: the first line of the events expects nothing yet, or a line that is the next or decides. Assumes nothing.
+-- `compare_pieces::meet_line`: the first line of the events expects nothing yet, or a line that is the next or decides. Assumes nothing.
 use borrow.Author.Needs.{needs}
 use native.Mathlib.Omega.{arith}
 use mathlib.Core.Path.{sym}
 use Rattle.trace_session.specs.Tracing.{sessionOf}
 use Rattle.trace_logs.specs.Pieces.{readingOf}
 use Rattle.text_logs.proofs.Feeding.{begun-small, taken-some}
-use Rattle.compare_logs.proofs.Laws.{first-there, some-there, meets-nothing, meets-line, meets-verdict}
-use Rattle.compare_logs.proofs.meet_line.Statement.{statement}
-use Rattle.compare_logs.proofs.meet_line.Tie as tie
+use Rattle.compare_pieces.proofs.Laws.{first-there, some-there, meets-nothing, meets-line, meets-verdict}
+use Rattle.compare_pieces.proofs.meet_line.Statement.{statement}
+use Rattle.compare_pieces.proofs.meet_line.Tie as tie
 
 first-line-requires : tie.Need-first-line-requires
 first-line-requires c κs =

@@ -4,10 +4,9 @@ use mathlib.Core.Bool.{Bool, true}
 use mathlib.Core.List.{List, [], _++_}
 use Prim.Native.Nat.{ℕ, _+_, _<_, _≤_}
 use lib.ListN.{length, drop}
-use Rattle.text_pieces.specs.Pieces.{newlineAt}
 use Rattle.trace_session.specs.Tracing.{Kept, Beside}
-use Rattle.trace_logs.specs.Pieces.{Reading, given, toEnd, opened}
-use Rattle.compare_lines.specs.Comparing.{Found, foundIn, compared, partFrom, partTo}
+use Rattle.trace_logs.specs.Pieces.{Reading, given, toEnd}
+use Rattle.compare_lines.specs.Comparing.{Found, foundIn}
 use Rattle.compare_lines.specs.Judging.{same}
 
 -- what is found from here on, where these events and these answers are left
@@ -44,26 +43,6 @@ pub record Settles (r : Reading) (answers : List ℕ) (verdict lines taken : ℕ
   pub within : taken ≤ length answers
   pub settles : (n : ℕ) (more : List ℕ) → Seen answers more
       → goesOn n r [] (answers ++ more) ≡ record { verdict = verdict; agreed = n + lines; left = drop taken answers ++ more }
-
--- ---- both texts in memory
--- what is found in what is left of the answers after the header, however many lines agree before
-pub record FindsOn (events rest : List ℕ) (verdict : ℕ) (left : List ℕ) : Type 0 where
-  pub verdict-on : (n : ℕ) → verdict ≡ goesOn n opened events rest .verdict
-  pub left-on : (n : ℕ) → left ≡ goesOn n opened events rest .left
-
--- a place of the answers, and where the line ends that begins there
-pub record LineAt (answers : List ℕ) (from to : ℕ) : Type 0 where
-  pub ends : to ≡ from + newlineAt (drop from answers)
-  pub ordered : from ≤ to
-  pub within : to ≤ length answers
-
-pub record Finds (events answers : List ℕ) (verdict from to : ℕ) : Type 0 where
-  pub verdict-is : verdict ≡ compared events answers .verdict
-  pub from-is : from ≡ partFrom answers (compared events answers)
-  pub to-is : to ≡ partTo answers (compared events answers)
-  pub lies-there : drop from answers ≡ compared events answers .left
-  pub ordered : from ≤ to
-  pub within : to ≤ length answers
 
 -- ---- a comparison in pieces
 -- The header is judged, calls follow on what is there of both texts and on what they leave of it, and one at the end of the events.

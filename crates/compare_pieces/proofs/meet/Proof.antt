@@ -1,4 +1,4 @@
--- `compare_logs::meet`: at each turn what the lines so far come to and what the rest comes to are what the pieces come to (`meets-then`). Assumes nothing.
+-- `compare_pieces::meet`: at each turn what the lines so far come to and what the rest comes to are what the pieces come to (`meets-then`). Assumes nothing.
 use borrow.Author.Needs.{needs}
 use native.Mathlib.Omega.{arith}
 use mathlib.Core.Path.{_≡_, refl, _∙_}
@@ -7,10 +7,10 @@ use lib.ListN.{length}
 use Rattle.bits.proofs.Decide.{clash}
 use Rattle.trace_logs.specs.Pieces.{readingOf}
 use Rattle.compare_lines.specs.Judging.{same}
-use Rattle.compare_logs.specs.Meeting.{Unless, Meets, Holding}
-use Rattle.compare_logs.proofs.Laws.{meets-start, meets-then, meets-on, rest-some}
-use Rattle.compare_logs.proofs.meet.Statement.{statement}
-use Rattle.compare_logs.proofs.meet.Tie as tie
+use Rattle.compare_pieces.specs.Meeting.{Unless, Meets, Holding}
+use Rattle.compare_pieces.proofs.Laws.{meets-start, meets-then, meets-on, rest-some}
+use Rattle.compare_pieces.proofs.meet.Statement.{statement}
+use Rattle.compare_pieces.proofs.meet.Tie as tie
 
 abbrev Inv-loop : tie.InvT-loop
 Inv-loop words₀ rows₀ next₀ told₀ kept₀ held₀ len events line₀ answers last count₀ i₀ at₀ lines₀ words rows next told kept held line count i at lines = Meets (Unless last) (readingOf words₀ held₀ len) events answers same lines i at (readingOf words held count) × Holding words rows next told kept held count × (length line ≡ length line₀)
