@@ -1,12 +1,12 @@
 -- Asking, Named and Reopened are led to by the question's own steps alone: F8h, our byte, START. So the acknowledged F9h stands at its end. Assumes nothing.
-use mathlib.Core.Path.{_≡_, refl, sym, ap, ap₂, _∙_}
+use mathlib.Core.Path.{_≡_, refl, ap, ap₂, _∙_}
 use mathlib.Core.Bool.{Bool, true, false, cond, _&&_, _||_}
 use Prim.Native.Nat.{ℕ, zero, suc, _+_, _/_, _%_}
 use borrow.Author.Tests.{eq-eqb}
 use lib.Dec.{eqb}
 use Rattle.map.specs.Map.{Part, reserved}
-use Rattle.device_rules.specs.Device.{State, Event, Outcome, number, busAt, state, out, goes, addressByte, ours, atPlace, addressed, byteIn, fetchIn, startIn, resetted, step}
-use Rattle.device_rules.specs.Device.Bus.{Idle, Opened, Chosen, Filling, Sending, Call, Armed, Deaf, Asking, Named, Reopened, Telling}
+use Rattle.device_rules.specs.Device.{State, Event, number, busAt, state, out, goes, addressByte, ours, atPlace, addressed, byteIn, fetchIn, startIn, resetted, step}
+use Rattle.device_rules.specs.Device.Bus.{Idle, Chosen, Filling, Sending, Call, Armed, Deaf, Asking, Named, Telling}
 use Rattle.device_rules.specs.Device.Event.{Start, Stop, HardwareReset, ByteSent, ByteFetched, Levels}
 use Rattle.device_rules.specs.declared.Answer.the-variants.{Ack, Nak}
 use Rattle.device_demands.specs.Transactions.{ledTo}

@@ -1,6 +1,6 @@
 -- Images that fit, and what an event given by its kind and argument is: for every part. Assumes nothing.
 use mathlib.Core.Path.{_≡_, sym, ap}
-use mathlib.Core.Bool.{Bool, true, false, not, _&&_}
+use mathlib.Core.Bool.{true, false, not, _&&_}
 use Prim.Native.Nat.{ℕ, _^_, _<_}
 use borrow.Author.Tests.{lt-ltb, ltb-true, not-true, eq-eqb, eqb-true}
 use lib.Dec.{eqb, ltb}

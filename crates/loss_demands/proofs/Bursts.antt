@@ -20,7 +20,7 @@ use Rattle.device_burst.proofs.BurstRuns.{sent-steps}
 use Rattle.loss_rules.specs.Marks.{Marks, marksAfter, marksFit, markedStep}
 use Rattle.loss_rules.proofs.Laws.{fit-after}
 use Rattle.loss_burst.specs.MarkedBurst.{marksOver}
-use Rattle.loss_demands.specs.Watched.{Act, Watched, watched, acted, afterAll, actsOf}
+use Rattle.loss_demands.specs.Watched.{Watched, watched, acted, afterAll, actsOf}
 use Rattle.loss_demands.specs.Watched.Act.{Event}
 
 module _ (p : Part) where

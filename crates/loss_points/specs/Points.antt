@@ -4,7 +4,6 @@ use mathlib.Core.List.{List, [], _∷_, _++_}
 use Prim.Native.Nat.{ℕ}
 use lib.Dec.{eqb}
 use Rattle.map.specs.Map.{Part, part24, part34}
-use Rattle.device_demands.specs.Run.{Asked}
 use Rattle.device_demands.specs.Transactions.{ask, START, STOP, sent, writeOver, readOver}
 use Rattle.loss_rules.specs.Marks.{marksRefused, signOff}
 use Rattle.loss_demands.specs.Watched.{Act, Watched, poweredOn, afterAll, actsOf}

@@ -4,7 +4,7 @@ use Prim.Native.Nat.{ℕ, _^_}
 use lib.Dec.{eqb, ltb}
 use Rattle.bits.specs.Bits.{bit, differs, tabulate}
 use Rattle.map.specs.Map.{Part}
-use Rattle.device_rules.specs.Device.{State, Event, Bus, Outcome, number, out}
+use Rattle.device_rules.specs.Device.{State, Event, Outcome, number, out}
 use Rattle.device_rules.specs.Device.Bus.{Armed}
 use Rattle.device_rules.specs.Device.Event.{Start, Stop, HardwareReset, ByteSent, ByteFetched, Levels}
 use Rattle.device_rules.specs.Refusals.{eventOf, imageFits, stepped}

@@ -12,7 +12,7 @@ use borrow.Author.Tests.{not-true, eqb-true, eqb-false}
 use Rattle.map.specs.Map.{Part, reserved, walked}
 use Rattle.registers.specs.Registers.{Core, written}
 use Rattle.device_rules.specs.Device.{State, goes, number as numberOf}
-use Rattle.device_rules.specs.Device.Bus.{Idle, Opened, Chosen}
+use Rattle.device_rules.specs.Device.Bus.{Idle, Chosen}
 use Rattle.device_rules.specs.declared.Answer.{Answer}
 use Rattle.device_rules.specs.declared.Answer.the-variants.{Nothing, Ack}
 use Rattle.device_rules.specs.Refusals.{stepped}
@@ -21,7 +21,7 @@ use Rattle.device_demands.specs.Run.{Asked, after, answers}
 use Rattle.device_demands.specs.Transactions.{rightly, START, sent, toWrite, numberIn, modeIn, writeOver, writtenFrom}
 use Rattle.device_demands.proofs.Lawful.{Lawful}
 use Rattle.device_demands.proofs.Keeps.{WellFormed, run-keeps}
-use Rattle.device_demands.proofs.Transacting.{on, ended, ready, opened, start, to-write, filling, command, fills, data-byte, bus-writes, bus-writes-answers, clear-number, clear-mode}
+use Rattle.device_demands.proofs.Transacting.{on, ended, opened, start, to-write, filling, command, fills, data-byte, bus-writes, bus-writes-answers, clear-number, clear-mode}
 use Rattle.planner_quiet.specs.Settings.{Settings, Write}
 use Rattle.planner_quiet.specs.Quiet.{Still, Quiet, Formed, writes, afterFirst, isPlanned, Listed, settingsOf, driveAt, inputAt, statusAt}
 use Rattle.planner_overbus.specs.OverBus.{overBus, afterEvents, allTaken, QuietOverBus}

@@ -10,7 +10,7 @@ use Rattle.bits.proofs.Decide.{clash}
 use Rattle.bits.proofs.Laws.{bit-tabulate, bit-zero, tabulate-ext, some-ext}
 use Rattle.ports.specs.Ports.{portBit}
 use Rattle.pins.specs.OnePin.{OnePin, Happening, after, registersAfter, pinAfter, statusOf}
-use Rattle.pins.specs.OnePin.Happening.{OutputWritten, PolarityWritten, PinKindWritten, LevelTo, Reset, Elsewhere}
+use Rattle.pins.specs.OnePin.Happening.{OutputWritten, PolarityWritten, PinKindWritten, Reset, Elsewhere}
 use Rattle.pins.specs.Kept.{statusAfter}
 use Rattle.pins.specs.Pin.{reset}
 use Rattle.pins.specs.AllPins.{mapPins, asserted}

@@ -9,7 +9,7 @@ use Rattle.pins.specs.Kept.{statusAfter}
 use Rattle.pins.specs.OnePin.{Happening, statusOf}
 use Rattle.pins.specs.OnePin.Happening.{LevelTo}
 use Rattle.ports.specs.Ports.{byteOf}
-use Rattle.map.specs.Map.{Part, Kind, firstOf, kindAt, code}
+use Rattle.map.specs.Map.{Part, Kind, firstOf, code}
 use Rattle.map.specs.Map.Kind.{Reserved, Input, Status, InputStatus, Configuration, Latch, Mask, PortKind, Edge, Clear, Output, Polarity, PinKind, Stored}
 use Rattle.registers.specs.Registers.{Core, onePin, shown, writtenTo, fetchedAs}
 

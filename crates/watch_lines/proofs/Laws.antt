@@ -19,7 +19,6 @@ use Rattle.trace_lines.specs.Lines.{lineOf, levelsOf, tab, device, device34, de
 use Rattle.trace_lines.specs.declared.Line.{Line}
 use Rattle.trace_lines.specs.declared.Line.the-variants as trace
 use Rattle.trace_lines.proofs.Laws.{line-means, line-tiny, line-long}
-use Rattle.watch_lines.specs.declared.Said.{Said}
 use Rattle.watch_lines.specs.declared.Said.the-variants.{Device, Event, Unreadable}
 use Rattle.watch_lines.specs.Watching.{sign, signWith, deviceWith, deviceOf, ownOf, saidAs, saidBy, Means}
 

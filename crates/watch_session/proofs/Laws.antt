@@ -11,7 +11,6 @@ use Rattle.bits.specs.Bits.{bit}
 use Rattle.bits.proofs.Decide.{clash, either-arm}
 use Rattle.map.specs.Map.{Part, partOf}
 use Rattle.device_rules.specs.Device.{State, Outcome, out}
-use Rattle.device_rules.specs.declared.Answer.{Answer}
 use Rattle.device_rules.specs.declared.Answer.the-variants.{Nothing, Refused}
 use Rattle.device_rules.specs.Refusals.{eventOf, imageFits, refusal, stepped}
 use Rattle.device_rules.specs.Answers.{answerKind}

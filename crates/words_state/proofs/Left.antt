@@ -1,17 +1,15 @@
 -- Packed words stay packed when their registers and pins, their pointer or their bus state change, and hold the state so changed. Assumes nothing.
 use mathlib.Core.Path.{_≡_, refl, sym, ap, ap₂, _∙_}
-use mathlib.Core.Bool.{Bool, true, false, _&&_}
+use mathlib.Core.Bool.{false, _&&_}
 use mathlib.Core.List.{List, [], _∷_}
 use Prim.Native.Nat.{ℕ, zero, suc, _+_, _*_, _/_, _%_, _<_}
 use native.Mathlib.Nat.{mod-eq-of-lt, mod-lt}
 use native.Mathlib.Omega.{arith}
-use borrow.Author.Tests.{eqb-true, eqb-false, ltb-true}
 use lib.Arith.{digits-div, digits-mod}
-use lib.Dec.{eqb, ltb}
+use lib.Dec.{eqb}
 use lib.ListN.{getD, set, length-set}
 use lib.Seq.{getD-set-same, getD-set-other}
 use Rattle.bits.specs.Bits.{bit}
-use Rattle.bits.proofs.Decide.{and-left, and-right}
 use Rattle.pins.proofs.AllPins.{same}
 use Rattle.map.specs.Map.{reserved, partOf}
 use Rattle.registers.specs.Registers.{Core}

@@ -14,7 +14,6 @@ use Rattle.words.specs.Words.{coreIn, interruptIn}
 use Rattle.words.proofs.Sound.{mapped}
 use Rattle.words.proofs.Images.{file-length}
 use Rattle.words_rows.proofs.Taken.{next-of, next-known}
-use Rattle.words_state.specs.Packed.{answerAt}
 use Rattle.words_state.proofs.Left.{packed-becomes, holds-pointer}
 use Rattle.words_state.proofs.Standing.{named}
 use Rattle.words_bus.proofs.byte_filling.Statement.{statement}

@@ -2,7 +2,6 @@
 use borrow.Author.Needs.{needs}
 use mathlib.Core.Path.{sym, ap, _∙_}
 use mathlib.Core.Bool.{Bool, cond}
-use borrow.Author.Tests.{not-true}
 use Prim.Native.Nat.{ℕ}
 use Rattle.words_views.proofs.line_of.Statement.{statement}
 use Rattle.words_views.proofs.line_of.Tie as tie

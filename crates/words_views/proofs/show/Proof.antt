@@ -1,17 +1,13 @@
--- `words_views::show`: pins by `shown-port`, interrupt status as it is kept, else what is stored. Assumes nothing.
+-- `words_views::show`: an input port by `show_inputs`, interrupt status as it is kept, else what is stored. Assumes nothing.
 use borrow.Author.Needs.{needs}
-use mathlib.Core.Path.{refl, sym, ap, _∙_}
+use mathlib.Core.Path.{_∙_}
 use Prim.Native.Nat.{_<_}
 use native.Mathlib.Omega.{arith}
 use borrow.Author.Tests.{ne-eqb}
-use lib.Dec.{eqb}
-use Rattle.pins.specs.OnePin.{inputOf}
-use Rattle.map.specs.Map.{Kind, code, partOf}
+use Rattle.map.specs.Map.{partOf}
 use Rattle.map.specs.Map.Kind.{Input, Status, InputStatus}
-use Rattle.registers.specs.Registers.{onePin, shownAs}
-use Rattle.words.specs.Words.{coreIn}
 use Rattle.words.proofs.Sound.{sound}
-use Rattle.words.proofs.Showing.{input-read, entry-shown, shown-port, shown-else, shown-status}
+use Rattle.words.proofs.Showing.{entry-shown, shown-else, shown-status}
 use Rattle.words_rows.proofs.Taken.{known-small, its-kind, paired-by, low-rule}
 use Rattle.words_views.proofs.show.Statement.{statement}
 use Rattle.words_views.proofs.show.Tie as tie
