@@ -78,7 +78,7 @@ def plain(line):
 def check_forms(module):
     for number, line in enumerate(module.split('\n'), 1):
         if not any(form.fullmatch(plain(line)) for form in FORMS):
-            stop('line %d has a form that is not known: %s' % (number, line.strip()))
+            stop('line %d has a form that is not known to mean the same on another processor: %s' % (number, line.strip()))
 
 
 def only_line(text, start):
