@@ -1,4 +1,4 @@
-/* What the C programs here use of the C library, as it is on 64-bit Linux. */
+/* What the C programs here use of the C library, as it is on Linux; c/bare has it for processors other than x86-64. */
 #ifndef LIBC_H
 #define LIBC_H
 
