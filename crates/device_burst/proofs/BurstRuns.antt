@@ -9,6 +9,7 @@ use lib.Dec.{eqb, leb}
 use lib.ListN.{length, getD, take}
 use Rattle.bits.proofs.Decide.{either-arm}
 use Rattle.map.specs.Map.{Part}
+use Rattle.registers.proofs.Lawful.{Lawful}
 use Rattle.device_rules.specs.Device.{State, Outcome}
 use Rattle.device_rules.specs.Refusals.{stepped}
 use Rattle.device_rules.specs.PowerOn.{powerOn}
@@ -16,7 +17,6 @@ use Rattle.device_rules.specs.Answers.{answerKind, refusalNumber}
 use Rattle.device_rules.specs.declared.Answer.{Answer}
 use Rattle.device_rules.specs.declared.Answer.the-variants.{Nothing}
 use Rattle.device_demands.specs.Run.{Asked, after, answers}
-use Rattle.device_demands.proofs.Lawful.{Lawful}
 use Rattle.device_demands.proofs.Keeps.{WellFormed, image-of, stepped-keeps, power-on-fits}
 use Rattle.device_demands.proofs.Runs.{image-kept}
 use Rattle.words_events.specs.Events.{Sent, sent, halved, wholeOf, one}

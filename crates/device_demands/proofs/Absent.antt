@@ -21,9 +21,9 @@ use Rattle.registers.specs.Interrupt.{Interrupt, workedOut, shownKept}
 use Rattle.device_rules.specs.Device.{State}
 use Rattle.device_rules.specs.PowerOn.{powerOn}
 use Rattle.map.proofs.Onward.{known-small}
+use Rattle.registers.proofs.Lawful.{Lawful, showsPins, shown-place}
 use Rattle.device_demands.specs.Run.{Asked, after}
 use Rattle.device_demands.specs.Absent.{NoPin, Nowhere}
-use Rattle.device_demands.proofs.Lawful.{Lawful, showsPins, shown-place}
 use Rattle.device_demands.proofs.Keeps.{WellFormed, fits-entry, no-input, power-on-fits, run-keeps}
 use Rattle.device_demands.proofs.Transacting.{shown-right}
 

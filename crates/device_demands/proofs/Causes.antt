@@ -9,11 +9,11 @@ use Rattle.pins.specs.Cause.{Cause}
 use Rattle.pins.proofs.Causes.{only-by-cause}
 use Rattle.map.specs.Map.{Part}
 use Rattle.registers.specs.Registers.{onePin}
+use Rattle.registers.proofs.Lawful.{Lawful}
 use Rattle.device_rules.specs.Device.{State, out, step}
 use Rattle.device_rules.specs.Refusals.{refusal, stepped, eventOf}
 use Rattle.device_rules.specs.declared.Answer.the-variants.{Refused}
 use Rattle.device_demands.specs.Happens.{happensTo}
-use Rattle.device_demands.proofs.Lawful.{Lawful}
 use Rattle.device_demands.proofs.Machine.{as-one-pin}
 use Rattle.device_demands.proofs.Keeps.{WellFormed}
 

@@ -11,6 +11,7 @@ use Rattle.bits.specs.Bits.{val}
 use Rattle.map.specs.Map.{Part, kindAt, reserved, partOf}
 use Rattle.registers.specs.Registers.{Core}
 use Rattle.registers.specs.Interrupt.{Interrupt}
+use Rattle.registers.proofs.Lawful.{Lawful}
 use Rattle.device_rules.specs.Device.{Identity, State, Bus, Outcome, number, busAt, identity, state, out, goes, addressByte, byteAt, nextPlace, atPlace, byteIn, fetchIn, startIn, step}
 use Rattle.device_rules.specs.Device.Bus.{Idle, Opened, Filling, Deaf, Asking, Named, Reopened, Telling}
 use Rattle.device_rules.specs.Refusals.{stepped}
@@ -19,7 +20,6 @@ use Rattle.device_rules.specs.declared.Answer.the-variants.{Nothing, Ack, Nak, 
 use Rattle.device_rules.proofs.Images.{fetch-taken}
 use Rattle.device_demands.specs.Run.{after, answers}
 use Rattle.device_demands.specs.Transactions.{START, STOP, sent, fetch as fetched-byte, fetchedAll, identify, placesOn, toldFrom}
-use Rattle.device_demands.proofs.Lawful.{Lawful}
 use Rattle.device_demands.proofs.Keeps.{WellFormed, image-of, to, stepped-keeps}
 use Rattle.device_demands.proofs.Transacting.{on, ended, answers-on, answers-ended, ready, opened, start, stop, sent-byte}
 

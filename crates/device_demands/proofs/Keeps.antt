@@ -32,7 +32,7 @@ use Rattle.map.proofs.Onward.{known-small}
 use Rattle.device_rules.proofs.Images.{sound-of, fits-of, identity-fits}
 use Rattle.device_demands.specs.Run.{Asked, after}
 use Rattle.registers.proofs.Pinwise.{load-set}
-use Rattle.device_demands.proofs.Lawful.{Lawful}
+use Rattle.registers.proofs.Lawful.{Lawful}
 
 -- ---- the file, entry by entry
 module _ (p : Part) (file : List ℕ) where

@@ -1,7 +1,6 @@
 pub mod Absent
 pub mod Causes
 pub mod Keeps
-pub mod Lawful
 pub mod Machine
 pub mod Runs
 pub mod Transacting

@@ -10,11 +10,11 @@ use Rattle.pins.specs.OnePin.Happening.{Reset, Elsewhere}
 use Rattle.map.specs.Map.{Part, reserved}
 use Rattle.registers.specs.Registers.{Core, onePin}
 use Rattle.registers.proofs.Written.{write-pin, fetch-pin, level-pin, reset-pin}
+use Rattle.registers.proofs.Lawful.{Lawful}
 use Rattle.device_rules.specs.Device.{State, Event, Bus, Outcome, busAt, number, goes, addressByte, ours, addressed, byteIn, fetchIn, resetted, step}
 use Rattle.device_rules.specs.Device.Bus.{Idle, Opened, Chosen, Filling, Sending, Call, Armed, Deaf, Asking, Named, Reopened, Telling}
 use Rattle.device_rules.specs.Device.Event.{Start, Stop, HardwareReset, ByteSent, ByteFetched, Levels}
 use Rattle.device_demands.specs.Happens.{sentIn, fetchedIn, happensTo}
-use Rattle.device_demands.proofs.Lawful.{Lawful}
 
 module _ (p : Part) (ok : Lawful p) (s : State) (i : ℕ) (hi : i < p .width) where
   abbrev P : Core → OnePin

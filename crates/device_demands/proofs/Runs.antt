@@ -9,6 +9,7 @@ use lib.Dec.{eqb, ltb, leb}
 use Rattle.bits.proofs.Decide.{clash, either-arm}
 use Rattle.map.specs.Map.{Part, partOf, reserved}
 use Rattle.registers.specs.Registers.{drivenLow, drivenHigh, intAsserted}
+use Rattle.registers.proofs.Lawful.{Lawful, lawful}
 use Rattle.device_rules.specs.Device.{State, Event, Bus, Outcome, busAt, out, addressByte, ours, addressed, byteIn, fetchIn, step}
 use Rattle.device_rules.specs.Refusals.{imageFits, argumentFits, refusal, stepped, eventOf}
 use Rattle.device_rules.specs.Device.Bus.{Idle, Opened, Chosen, Filling, Sending, Call, Armed, Deaf, Asking, Named, Reopened, Telling}
@@ -22,7 +23,6 @@ use Rattle.device.proofs.Asking.{ruled}
 use Rattle.device.specs.declared.Device.{Device}
 use Rattle.device.specs.Asked.{driven, line}
 use Rattle.device_demands.specs.Run.{Asked, seen, seenFrom, run, answers, Functions, making, Said, said, saidFrom, runWith, unrefused, Represented, Askable, Contracts}
-use Rattle.device_demands.proofs.Lawful.{Lawful, lawful}
 use Rattle.device_demands.proofs.Keeps.{WellFormed, image-of, stepped-keeps, power-on-fits}
 
 -- ---- a step answers, and does not refuse

@@ -27,10 +27,10 @@ use Rattle.device_rules.specs.Device.Event.{ByteSent}
 use Rattle.device_rules.specs.declared.Answer.{Answer}
 use Rattle.device_rules.specs.declared.Answer.the-variants.{Nothing, Ack, Byte}
 use Rattle.map.proofs.Onward.{known-small}
+use Rattle.registers.proofs.Lawful.{Lawful, shown-place}
 use Rattle.device_rules.proofs.Images.{start-taken, stop-taken, byte-taken, fetch-taken}
 use Rattle.device_demands.specs.Run.{Asked, after, answers}
 use Rattle.device_demands.specs.Transactions.{rightly, START, STOP, sent, toWrite, toRead, fetch as fetched-byte, sentAll, numberIn, modeIn, writeAllOver, Bytes, writtenFrom, acks, fetchedAll, readAllOn, readAllOver, shownFrom, fetchedFrom}
-use Rattle.device_demands.proofs.Lawful.{Lawful, shown-place}
 use Rattle.device_demands.proofs.Keeps.{no-input, WellFormed, image-of, to, point-keeps, fill-keeps, fetch-keeps}
 
 -- the rest of a run goes on from where its first event leads

@@ -9,11 +9,11 @@ use lib.Dec.{eqb, ltb}
 use Rattle.bits.specs.Bits.{bit, differs}
 use Rattle.bits.proofs.Decide.{clash}
 use Rattle.map.specs.Map.{Part}
+use Rattle.registers.proofs.Lawful.{Lawful}
 use Rattle.device_rules.specs.Device.{Outcome, out, step}
 use Rattle.device_rules.specs.Refusals.{eventOf, imageFits, refusal, stepped}
 use Rattle.device_rules.specs.Answers.{answerKind}
 use Rattle.device_rules.specs.declared.Answer.the-variants.{Refused}
-use Rattle.device_demands.proofs.Lawful.{Lawful}
 use Rattle.device_demands.proofs.Keeps.{never-broken}
 use Rattle.device_demands.proofs.Runs.{step-taken}
 use Rattle.loss_rules.specs.Marks.{isReset, setsMark, quietAndHealthy, marksFit, markedStep, signRefused}

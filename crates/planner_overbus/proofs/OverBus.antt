@@ -17,9 +17,9 @@ use Rattle.device_rules.specs.declared.Answer.{Answer}
 use Rattle.device_rules.specs.declared.Answer.the-variants.{Nothing, Ack}
 use Rattle.device_rules.specs.Refusals.{stepped}
 use Rattle.map.proofs.Onward.{known-small}
+use Rattle.registers.proofs.Lawful.{Lawful}
 use Rattle.device_demands.specs.Run.{Asked, after, answers}
 use Rattle.device_demands.specs.Transactions.{rightly, START, sent, toWrite, numberIn, modeIn, writeOver, writtenFrom}
-use Rattle.device_demands.proofs.Lawful.{Lawful}
 use Rattle.device_demands.proofs.Keeps.{WellFormed, run-keeps}
 use Rattle.device_demands.proofs.Transacting.{on, ended, opened, start, to-write, filling, command, fills, data-byte, bus-writes, bus-writes-answers, clear-number, clear-mode}
 use Rattle.planner_quiet.specs.Settings.{Settings, Write}

@@ -9,13 +9,13 @@ use lib.Dec.{ltb}
 use lib.ListN.{length, take}
 use lib.Seq.{take-all, length-take-le}
 use Rattle.map.specs.Map.{Part, partOf}
+use Rattle.registers.proofs.Lawful.{lawful}
 use Rattle.device_rules.specs.Device.{Outcome, out}
 use Rattle.device_rules.specs.Answers.{refusalNumber}
 use Rattle.device_rules.specs.Refusals.{imageFits}
 use Rattle.device_rules.proofs.Images.{broken}
 use Rattle.device.specs.Held.{stateIn, fitsIn}
 use Rattle.device.specs.declared.Stepped.{Stepped}
-use Rattle.device_demands.proofs.Lawful.{lawful}
 use Rattle.device_demands.proofs.Keeps.{image-of, well-formed, stepped-keeps}
 use Rattle.text.specs.Text.{Wrote}
 use Rattle.text.proofs.Laws.{wrote-as}

@@ -6,6 +6,7 @@ use Prim.Native.Nat.{ℕ, zero, suc}
 use native.Mathlib.Omega.{arith}
 use borrow.Author.Tests.{le-leb}
 use Rattle.map.specs.Map.{Part, part34, partOf}
+use Rattle.registers.proofs.Lawful.{Lawful, lawful24, lawful34}
 use Rattle.device_rules.specs.Device.{State, Outcome, out}
 use Rattle.device_rules.specs.Answers.{refusalNumber}
 use Rattle.device_rules.specs.declared.Answer.the-variants.{Nothing}
@@ -13,7 +14,6 @@ use Rattle.device_rules.specs.Refusals.{refusal, stepped, eventOf}
 use Rattle.device_rules.specs.PowerOn.{powerOn}
 use Rattle.device_rules.proofs.Images.{taken}
 use Rattle.device_demands.specs.Run.{Asked, after, seenFrom}
-use Rattle.device_demands.proofs.Lawful.{Lawful, lawful24, lawful34}
 use Rattle.device_demands.proofs.Keeps.{WellFormed, image-of, stepped-keeps, power-on-fits}
 use Rattle.device_demands.proofs.Runs.{step-answers}
 use Rattle.trace_lines.specs.Lines.{lineOf, Taken, Means}
