@@ -1,16 +1,15 @@
 -- What a part's map must be for the theorems about its planner: tests that antt computes for both parts. Assumes nothing.
-use mathlib.Core.Path.{_≡_, refl, sym, ap, ap₂, subst, _∙_}
-use mathlib.Core.Bool.{Bool, true, false, cond, not}
+use mathlib.Core.Path.{_≡_, refl, sym, ap, subst, _∙_}
+use mathlib.Core.Bool.{Bool, true, false, cond, not, _&&_, _||_}
 use mathlib.Core.List.{List, [], _∷_}
-use Prim.Native.Nat.{ℕ, zero, suc, _+_, _*_, _/_, _%_, _^_, _<_}
-use native.Mathlib.Nat.{min-le-left}
+use Prim.Native.Nat.{ℕ, zero, suc, _+_, _*_, _%_, _^_, _<_}
+use native.Mathlib.Nat.{min-le-left, mod-mod, mod-eq-of-lt}
 use native.Mathlib.Omega.{arith}
-use borrow.Author.Tests.{eqb-true, ltb-true}
-use lib.Arith.{digits-div, digits-mod}
+use borrow.Author.Tests.{eqb-true, ltb-true, lt-ltb}
 use lib.Dec.{eqb, ltb}
 use lib.ListN.{getD, length}
-use Rattle.bits.proofs.Decide.{each, eachBool}
-use Rattle.map.specs.Map.{Part, Kind, part24, part34, partOf, firstOf, kindAt, reserved, roomAt, keptIn, fitting, fittingAt}
+use Rattle.bits.proofs.Decide.{each, eachBool, clash, taut}
+use Rattle.map.specs.Map.{Part, Kind, part24, part34, partOf, code, firstOf, kindAt, reserved, roomAt, whole, keptIn, fitting, fittingAt}
 use Rattle.map.specs.Map.Kind.{Reserved, Input, Status, InputStatus, Configuration, Latch, Mask, PortKind, Edge, Clear, Output, Polarity, PinKind, Stored}
 use Rattle.registers.specs.Registers.{keptAs}
 use Rattle.registers.proofs.Pinwise.{Mapped, mapped24, mapped34}
@@ -35,6 +34,10 @@ planned Clear = false
 planned Polarity = false
 planned Stored = false
 
+-- and their room: a bit for each port in the output port kind, and where the ports are whole eight bits in every other
+abbrev exact : Part → Kind → (room : ℕ) → Bool
+exact p k room = cond (eqb (code k) (code PortKind)) (eqb room (p .ports)) (not (whole p) || eqb room 8)
+
 -- the number of a setting's q-th register
 abbrev pub numberAt : Part → ℕ → ℕ
 numberAt p q = getD (registersOf p) q 0
@@ -51,9 +54,7 @@ pub record Plannable (p : Part) : Type 0 where
   pub small : (q : ℕ) → q < length (registersOf p) → ltb (numberAt p q) 128 ≡ true
   pub kinds : (q : ℕ) → q < length (registersOf p) → planned (kindAt p (numberAt p q)) ≡ true
   pub known : (q : ℕ) → q < length (registersOf p) → not (reserved p (numberAt p q)) ≡ true
-  -- of a byte the bits that exist are stored, and a byte may stand there that has no other: m is 256 times q and the byte
-  pub keeps : (m : ℕ) → m < length (registersOf p) * 256 → keptAt p (numberAt p (m / 256)) (m % 256) ≡ m % 256 % 2 ^ roomAt p (numberAt p (m / 256))
-  pub fits : (m : ℕ) → m < length (registersOf p) * 256 → fittingAt p (numberAt p (m / 256)) (m % 256) ≡ ltb (m % 256) (2 ^ roomAt p (numberAt p (m / 256)))
+  pub rooms : (q : ℕ) → q < length (registersOf p) → exact p (kindAt p (numberAt p q)) (roomAt p (numberAt p q)) ≡ true
   -- port k's registers stand at their places
   pub at-output : (k : ℕ) → k < p .ports → numberAt p k ≡ firstOf p Output + k
   pub at-configuration : (k : ℕ) → k < p .ports → numberAt p (p .ports + k) ≡ firstOf p Configuration + k
@@ -81,8 +82,7 @@ plannable24 = record {
   small = eachBool 10 _ _ tt;
   kinds = eachBool 10 _ _ tt;
   known = eachBool 10 _ _ tt;
-  keeps = each 2560 _ _ tt;
-  fits = eachBool 2560 _ _ tt;
+  rooms = eachBool 10 _ _ tt;
   at-output = each 3 _ _ tt;
   at-configuration = each 3 _ _ tt;
   at-kinds = refl;
@@ -109,8 +109,7 @@ plannable34 = record {
   small = eachBool 16 _ _ tt;
   kinds = eachBool 16 _ _ tt;
   known = eachBool 16 _ _ tt;
-  keeps = each 4096 _ _ tt;
-  fits = eachBool 4096 _ _ tt;
+  rooms = eachBool 16 _ _ tt;
   at-output = each 5 _ _ tt;
   at-configuration = each 5 _ _ tt;
   at-kinds = refl;
@@ -122,6 +121,45 @@ plannable34 = record {
 pub plannable : (n : ℕ) → Plannable (partOf n)
 plannable zero = plannable24
 plannable (suc n) = plannable34
+
+-- ---- of a byte the bits that exist are stored, and a byte may stand there that has no other
+-- in the output port kind
+port-bits : (w : Bool) (ports room v : ℕ) → room ≡ ports
+    → (cond w (v % 2 ^ ports) (v % 2 ^ ports % 2 ^ room) ≡ v % 2 ^ room) × (cond w (ltb v (2 ^ ports)) (ltb v (2 ^ ports) && ltb v (2 ^ room)) ≡ ltb v (2 ^ room))
+port-bits true ports room v e = (ap (λ (r : ℕ). v % 2 ^ r) (sym e), ap (λ (r : ℕ). ltb v (2 ^ r)) (sym e))
+port-bits false ports room v e =
+    (ap (λ (r : ℕ). v % 2 ^ r % 2 ^ room) (sym e) ∙ mod-mod v (2 ^ room), ap (λ (r : ℕ). ltb v (2 ^ r) && ltb v (2 ^ room)) (sym e) ∙ twice (ltb v (2 ^ room)))
+  where
+    twice : (b : Bool) → (b && b) ≡ b
+    twice = taut 1 _ _ tt
+
+-- in a register of one bit a pin
+pin-bits : (w : Bool) (room v : ℕ) → (not w || eqb room 8) ≡ true → v < 256
+    → (cond w v (v % 2 ^ room) ≡ v % 2 ^ room) × (cond w true (ltb v (2 ^ room)) ≡ ltb v (2 ^ room))
+pin-bits true room v e h =
+    let eight = sym (eqb-true room 8 e) in
+    (sym (mod-eq-of-lt h) ∙ ap (λ (r : ℕ). v % 2 ^ r) eight, sym (lt-ltb v 256 h) ∙ ap (λ (r : ℕ). ltb v (2 ^ r)) eight)
+pin-bits false room v e h = (refl, refl)
+
+module _ (p : Part) (room v : ℕ) (h : v < 256) where
+  by-kind : (k : Kind) → planned k ≡ true → exact p k room ≡ true
+      → (cond (whole p) (keptAs p k v) (keptAs p k v % 2 ^ room) ≡ v % 2 ^ room)
+      × (cond (whole p) (fitting p k v) (fitting p k v && ltb v (2 ^ room)) ≡ ltb v (2 ^ room))
+  unfolding fitting
+  by-kind PortKind t e = port-bits (whole p) (p .ports) room v (eqb-true room (p .ports) e)
+  by-kind Output t e = pin-bits (whole p) room v e h
+  by-kind Configuration t e = pin-bits (whole p) room v e h
+  by-kind PinKind t e = pin-bits (whole p) room v e h
+  by-kind Reserved t e = clash false t refl
+  by-kind Input t e = clash false t refl
+  by-kind Status t e = clash false t refl
+  by-kind InputStatus t e = clash false t refl
+  by-kind Latch t e = clash false t refl
+  by-kind Mask t e = clash false t refl
+  by-kind Edge t e = clash false t refl
+  by-kind Clear t e = clash false t refl
+  by-kind Polarity t e = clash false t refl
+  by-kind Stored t e = clash false t refl
 
 -- ---- of a register of the setting, by its number
 found : (xs : List ℕ) (r : ℕ) → place xs r < length xs → getD xs (place xs r) 0 ≡ r
@@ -151,20 +189,11 @@ module _ (p : Part) (ok : Plannable p) (r : ℕ) (h : isPlanned p r) where
   planned-kind = of-each (λ n. planned (kindAt p n)) (ok .kinds)
 
   module _ (v : ℕ) (hv : v < 256) where
-    abbrev m : ℕ
-    m = q * 256 + v
-
-    in-list : m < length (registersOf p) * 256
-    in-list = omega (arith, h, hv)
-
-    number : numberAt p (m / 256) ≡ r
-    number = ap (numberAt p) (digits-div q hv) ∙ is-found
-
-    byte : m % 256 ≡ v
-    byte = digits-mod q hv
+    bits : (keptAt p r v ≡ v % 2 ^ roomAt p r) × (fittingAt p r v ≡ ltb v (2 ^ roomAt p r))
+    bits = by-kind p (roomAt p r) v hv (kindAt p r) planned-kind (of-each (λ n. exact p (kindAt p n) (roomAt p n)) (ok .rooms))
 
     pub kept-bits : keptAt p r v ≡ v % 2 ^ roomAt p (numberAt p q)
-    kept-bits = ap₂ (keptAt p) (sym number) (sym byte) ∙ ok .keeps m in-list ∙ ap₂ (λ (a n : ℕ). a % 2 ^ roomAt p n) byte (number ∙ sym is-found)
+    kept-bits = bits .0 ∙ ap (λ (n : ℕ). v % 2 ^ roomAt p n) (sym is-found)
 
     pub fits-bits : fittingAt p r v ≡ ltb v (2 ^ roomAt p (numberAt p q))
-    fits-bits = ap₂ (fittingAt p) (sym number) (sym byte) ∙ ok .fits m in-list ∙ ap₂ (λ (a n : ℕ). ltb a (2 ^ roomAt p n)) byte (number ∙ sym is-found)
+    fits-bits = bits .1 ∙ ap (λ (n : ℕ). ltb v (2 ^ roomAt p n)) (sym is-found)
