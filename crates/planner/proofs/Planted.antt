@@ -31,7 +31,8 @@ use Rattle.planner_promise.specs.Answer.{Planted}
 use Rattle.planner_bytes.specs.Bytes.{pinIn}
 use Rattle.planner_bytes.specs.declared.PinSets.{PinSets}
 use Rattle.planner_pairs.specs.Pairs.{pairOf, Emitted}
-use Rattle.planner.specs.Loaded.{Loaded, Halfway}
+use Rattle.planner_settings.specs.Loaded.{Loaded}
+use Rattle.planner.specs.Halfway.{Halfway}
 use Rattle.planner.specs.Pairwise.{opensTo, closesTo}
 
 -- ---- writes as bytes

@@ -4,7 +4,7 @@ use mathlib.Core.Bool.{Bool, true, false, cond, not, _&&_}
 use mathlib.Core.List.{List, _++_}
 use Prim.Native.Nat.{ℕ, suc, _*_, _^_, _≤_, _<_}
 use native.Mathlib.Omega.{arith}
-use borrow.Author.Tests.{lt-ltb, le-ltb, ltb-true, ltb-false}
+use borrow.Author.Tests.{ltb-true, ltb-false}
 use lib.Dec.{ltb}
 use lib.ListN.{getD, length}
 use Rattle.bits.specs.Bits.{bit}
@@ -23,26 +23,11 @@ use Rattle.planner_promise.proofs.Promising.{promised}
 use Rattle.planner_bytes.specs.Bytes.{pinIn}
 use Rattle.planner_bytes.specs.declared.PinSets.{PinSets}
 use Rattle.planner_pairs.specs.Pairs.{pairOf, Emitted}
-use Rattle.planner.specs.Loaded.{Loaded, Halfway, early}
+use Rattle.planner_settings.specs.Loaded.{Loaded, early}
+use Rattle.planner_settings.proofs.Early.{early-5, early-5-goal, early-6, early-0}
+use Rattle.planner.specs.Halfway.{Halfway}
 use Rattle.planner.specs.Pairwise.{opensTo, closesTo}
 use Rattle.planner.proofs.Planted.{planted, stuck-some, stuck-none}
-
--- ---- the refusals that need no look at a pin
-module _ (p : Part) (s g : Settings) (room needed : ℕ) where
-  abbrev tried : (a b c : Bool) → ℕ
-  tried a b c = cond (a && b) (cond c 6 0) 5
-
-  pub early-5 : formed p s ≡ false → 5 ≡ early p s g room needed
-  early-5 h = ap (λ (a : Bool). tried a (formed p g) (ltb room needed)) (sym h)
-
-  pub early-5-goal : formed p s ≡ true → formed p g ≡ false → 5 ≡ early p s g room needed
-  early-5-goal hs hg = ap₂ (λ (a b : Bool). tried a b (ltb room needed)) (sym hs) (sym hg)
-
-  pub early-6 : formed p s ≡ true → formed p g ≡ true → room < needed → 6 ≡ early p s g room needed
-  early-6 hs hg h = λ i. tried (sym hs i) (sym hg i) (sym (lt-ltb room needed h) i)
-
-  pub early-0 : formed p s ≡ true → formed p g ≡ true → needed ≤ room → 0 ≡ early p s g room needed
-  early-0 hs hg h = λ i. tried (sym hs i) (sym hg i) (sym (le-ltb room needed h) i)
 
 -- ---- the ways out of a shell
 module _ (p : Part) (ok : Plannable p) (s g before : List ℕ) (most : ℕ) (room : most ≡ roomFor p) where

@@ -11,9 +11,9 @@ use Rattle.map.specs.Map.{Part}
 use Rattle.map.specs.Map.Kind.{PinKind}
 use Rattle.planner_bytes.specs.declared.PinSets.{PinSets}
 use Rattle.planner_pairs.specs.Pairs.{pairOf, Emitted}
-use Rattle.planner.specs.Loaded.{LaidOut}
+use Rattle.planner_settings.specs.Loaded.{LaidOut}
+use Rattle.planner_settings.specs.declared.Layout.{Layout}
 use Rattle.planner.specs.Pairwise.{portPair, turnPairs, opensTo, closePairs, closesTo}
-use Rattle.planner.specs.declared.Layout.{Layout}
 
 -- what a call of `put` promises
 abbrev pub Puts : (register was to n r : ℕ) → (before after : List ℕ) → Type 0

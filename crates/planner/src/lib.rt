@@ -1,10 +1,10 @@
 // The planner: from a start to a goal for the registers that set direction, output level and output kind, of either part.
 ghost use mathlib.Core.Path.{_≡_};
-ghost use mathlib.Core.Bool.{true, cond, _&&_};
+ghost use mathlib.Core.Bool.{cond, _&&_};
 ghost use mathlib.Core.List.{List};
 ghost use Prim.Native.Nat.{ℕ, _+_, _*_, _≤_, _<_};
-ghost use lib.ListN.{length, getD};
-ghost use Rattle.bits.specs.Bits.{join, tabulate};
+ghost use lib.ListN.{length};
+ghost use Rattle.bits.specs.Bits.{tabulate};
 ghost use Rattle.map.specs.Map.{part24, part34, partOf};
 ghost use Rattle.planner_quiet.specs.Order.{stuck};
 ghost use Rattle.planner_quiet.specs.Quiet.{bitsAt};
@@ -12,116 +12,19 @@ ghost use Rattle.planner_promise.specs.Formed.{formed, roomFor};
 ghost use Rattle.planner_promise.specs.Answer.{answerOf, Answers};
 ghost use Rattle.planner_promise.specs.Promise.{refusalOf, countOf, Promise};
 ghost use Rattle.planner_pairs.specs.Pairs.{Emitted};
-ghost use Rattle.planner.specs.Loaded.{LaidOut, Loaded, Halfway, early};
+ghost use Rattle.planner.specs.Halfway.{Halfway};
 ghost use Rattle.planner.specs.Pairwise.{turnPairs, opensTo, closePairs, closesTo};
 use device::Device;
 use planner_bytes::PinSets;
-use planner_promise::BAD_SETTING;
-use planner_promise::BUFFER_SMALL;
 use planner_promise::NO_QUIET_WAY;
 use planner_promise::Planned;
+use planner_settings::LAYOUT24;
+use planner_settings::LAYOUT34;
 
 // The parts by their numbers.
 const PART24: u64 = 0;
 
 const PART34: u64 = 1;
-
-// What the planner knows of a part: its ports, the first register of each group, and the most that a setting's byte may be
-// in the output port kind and in the last port.
-pub struct Layout {
-    pub ports: u8,
-    pub output: u8,
-    pub configuration: u8,
-    pub kind: u8,
-    pub flip: u8,
-    pub kinds: u8,
-    pub last: u8,
-}
-
-const LAYOUT24: Layout = Layout {
-    ports: 3,
-    output: map::OUTPUT24,
-    configuration: map::CONFIGURATION24,
-    kind: map::PORT_KIND24,
-    flip: map::PIN_KIND24,
-    kinds: 0x07,
-    last: 0xff,
-};
-
-const LAYOUT34: Layout = Layout {
-    ports: 5,
-    output: map::OUTPUT34,
-    configuration: map::CONFIGURATION34,
-    kind: map::PORT_KIND34,
-    flip: map::PIN_KIND34,
-    kinds: 0x1f,
-    last: 0x03,
-};
-
-fn laid_out(part: u64) -> Layout
-    ensures { λ l. ⌜ LaidOut (partOf part) l ⌝ }
-{
-    if part == 0 {
-        return LAYOUT24;
-    }
-    LAYOUT34
-}
-
-// Whether s is a setting of the part: a byte a register, and no bit that does not exist.
-pub fn is_formed(part: u64, s: &[u8]) -> bool
-    ensures { λ r. ⌜ r ≡ formed (partOf part) (now (s .entry)) ⌝ }
-{
-    let l = laid_out(part);
-    let n = l.ports as usize;
-    if s.len() != 3 * n + 1 {
-        return false;
-    }
-    (s[2 * n] <= l.kinds) & (s[n - 1] <= l.last) & (s[2 * n - 1] <= l.last) & (s[3 * n] <= l.last)
-}
-
-// Why there is no plan whatever the pins do: 5, then 6; 0 for nothing.
-fn refused_early(part: u64, start: &[u8], goal: &[u8], room: usize, needed: usize) -> u8
-    ensures { λ r. ⌜ r ≡ early (partOf part) (now (start .entry)) (now (goal .entry)) room needed ⌝ }
-{
-    if !is_formed(part, start) {
-        return BAD_SETTING;
-    }
-    if !is_formed(part, goal) {
-        return BAD_SETTING;
-    }
-    if room < needed {
-        return BUFFER_SMALL;
-    }
-    0
-}
-
-// The bytes of n ports as a pin set.
-fn word(s: &[u8], at: usize, n: usize) -> u64
-    requires { ⌜ (at + n ≤ length (now s)) × (n ≤ 8) ⌝ }
-    ensures { λ r. ⌜ r ≡ join 8 n (λ k. getD (now (s .entry)) (at + k) 0) ⌝ }
-{
-    let mut w = 0u64;
-    let mut k = n;
-    while 0 < k {
-        k -= 1;
-        w = w * 256 + s[at + k] as u64;
-    }
-    w
-}
-
-// A setting as pin sets.
-fn load(part: u64, s: &[u8]) -> PinSets
-    requires { ⌜ formed (partOf part) (now s) ≡ true ⌝ }
-    ensures { λ r. ⌜ Loaded (partOf part) (now (s .entry)) r ⌝ }
-{
-    let n = laid_out(part).ports as usize;
-    PinSets {
-        output: word(s, 0, n),
-        configuration: word(s, n, n),
-        kind: ports::spread(s[2 * n]),
-        flip: word(s, 2 * n + 1, n),
-    }
-}
 
 // The pins in the middle of the plan: the port kinds of the goal, the pins' own kinds of the start.
 fn middle(s: PinSets, g: PinSets) -> PinSets
@@ -141,7 +44,7 @@ fn turn_port(part: u64, k: u8, a: PinSets, b: PinSets, n: usize, buf: &mut [u8])
     ensures { λ r. ⌜ ((out before : List ℕ) → Emitted out n before (now (buf .entry)) → Emitted (turnPairs (partOf part) a b k out) r before (now (buf .exit)))
         × (r ≤ n + 2) ⌝ }
 {
-    let l = laid_out(part);
+    let l = planner_settings::laid_out(part);
     let o = planner_pairs::put(
         buf,
         n,
@@ -163,7 +66,7 @@ fn open_ports(part: u64, s: PinSets, m: PinSets, buf: &mut [u8]) -> usize
     requires { ⌜ roomFor (partOf part) ≤ length (now buf) ⌝ }
     ensures { λ r. ⌜ Emitted (opensTo (partOf part) s m (partOf part .ports)) r (now (buf .entry)) (now (buf .exit)) × (r ≤ 2 * partOf part .ports) ⌝ }
 {
-    let ports = laid_out(part).ports;
+    let ports = planner_settings::laid_out(part).ports;
     let mut n = 0;
     let mut k = 0u8;
     while k < ports {
@@ -179,7 +82,7 @@ fn close_port(part: u64, k: u8, m: PinSets, g: PinSets, n: usize, buf: &mut [u8]
     ensures { λ r. ⌜ ((out before : List ℕ) → Emitted out n before (now (buf .entry)) → Emitted (closePairs (partOf part) m g k out) r before (now (buf .exit)))
         × (r ≤ n + 3) ⌝ }
 {
-    let l = laid_out(part);
+    let l = planner_settings::laid_out(part);
     let f = planner_pairs::put(
         buf,
         n,
@@ -196,7 +99,7 @@ fn close_ports(part: u64, m: PinSets, g: PinSets, from: usize, buf: &mut [u8]) -
     ensures { λ r. ⌜ ((out before : List ℕ) → Emitted out from before (now (buf .entry))
         → Emitted (closesTo (partOf part) m g out (partOf part .ports)) r before (now (buf .exit))) ⌝ }
 {
-    let ports = laid_out(part).ports;
+    let ports = planner_settings::laid_out(part).ports;
     let mut n = from;
     let mut k = 0u8;
     while k < ports {
@@ -211,12 +114,18 @@ pub fn plan(start: &[u8], goal: &[u8], buf: &mut [u8]) -> Planned
     ensures exact { λ r. ⌜ Answers r (now (buf .entry)) (now (buf .exit)) (answerOf part24 (now (start .entry)) (now (goal .entry)) (length (now (buf .entry)))) ⌝ }
     ensures promise { λ r. ⌜ Promise part24 (now (start .entry)) (now (goal .entry)) (now (buf .entry)) (now (buf .exit)) (refusalOf r) (countOf r) ⌝ }
 {
-    let number = refused_early(PART24, start, goal, buf.len(), Device::plan_room());
+    let number = planner_settings::refused_early(
+        PART24,
+        start,
+        goal,
+        buf.len(),
+        Device::plan_room(),
+    );
     if number != 0 {
         return Planned::Refused(number);
     }
-    let s = load(PART24, start);
-    let g = load(PART24, goal);
+    let s = planner_settings::load(PART24, start);
+    let g = planner_settings::load(PART24, goal);
     if planner_bytes::stuck_in(s, g) != 0 {
         return Planned::Refused(NO_QUIET_WAY);
     }
@@ -231,12 +140,18 @@ pub fn plan34(start: &[u8], goal: &[u8], buf: &mut [u8]) -> Planned
     ensures exact { λ r. ⌜ Answers r (now (buf .entry)) (now (buf .exit)) (answerOf part34 (now (start .entry)) (now (goal .entry)) (length (now (buf .entry)))) ⌝ }
     ensures promise { λ r. ⌜ Promise part34 (now (start .entry)) (now (goal .entry)) (now (buf .entry)) (now (buf .exit)) (refusalOf r) (countOf r) ⌝ }
 {
-    let number = refused_early(PART34, start, goal, buf.len(), Device::plan_room34());
+    let number = planner_settings::refused_early(
+        PART34,
+        start,
+        goal,
+        buf.len(),
+        Device::plan_room34(),
+    );
     if number != 0 {
         return Planned::Refused(number);
     }
-    let s = load(PART34, start);
-    let g = load(PART34, goal);
+    let s = planner_settings::load(PART34, start);
+    let g = planner_settings::load(PART34, goal);
     if planner_bytes::stuck_in(s, g) != 0 {
         return Planned::Refused(NO_QUIET_WAY);
     }
@@ -250,11 +165,14 @@ fn stuck_over(part: u64, start: &[u8], goal: &[u8]) -> u64
     ensures { λ r. ⌜ r ≡ cond (formed (partOf part) (now (start .entry)) && formed (partOf part) (now (goal .entry)))
         (tabulate (partOf part .width) (λ i. stuck (bitsAt (partOf part) (now (start .entry)) i) (bitsAt (partOf part) (now (goal .entry)) i))) 0 ⌝ }
 {
-    let both = is_formed(part, start) & is_formed(part, goal);
+    let both = planner_settings::is_formed(part, start) & planner_settings::is_formed(part, goal);
     if !both {
         return 0;
     }
-    planner_bytes::stuck_in(load(part, start), load(part, goal))
+    planner_bytes::stuck_in(
+        planner_settings::load(part, start),
+        planner_settings::load(part, goal),
+    )
 }
 
 // The pins that are stuck, for whoever explains a refusal 4; none where a start or goal is malformed.

@@ -1,9 +1,9 @@
--- `planner::is_formed`: the length (`formed-not`), then the bytes that may have a bit too many (`formed-is`). Assumes nothing.
+-- `planner_settings::is_formed`: the length (`formed-not`), then the bytes that may have a bit too many (`formed-is`). Assumes nothing.
 use borrow.Author.Needs.{needs}
 use Rattle.planner_quiet.proofs.Plannable.{plannable}
-use Rattle.planner.proofs.Formed.{formed-not, formed-is}
-use Rattle.planner.proofs.is_formed.Statement.{statement}
-use Rattle.planner.proofs.is_formed.Tie as tie
+use Rattle.planner_settings.proofs.Formed.{formed-not, formed-is}
+use Rattle.planner_settings.proofs.is_formed.Statement.{statement}
+use Rattle.planner_settings.proofs.is_formed.Tie as tie
 
 returns : tie.Need-returns
 returns c =

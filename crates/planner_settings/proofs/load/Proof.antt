@@ -1,13 +1,13 @@
--- `planner::load`: three groups of bytes and the spread port kinds are the setting's pin sets (`loaded`). Assumes nothing.
+-- `planner_settings::load`: three groups of bytes and the spread port kinds are the setting's pin sets (`loaded`). Assumes nothing.
 use borrow.Author.Needs.{needs}
 use mathlib.Core.Path.{sym, subst}
 use Prim.Native.Nat.{ℕ, _*_, _<_}
 use native.Mathlib.Omega.{arith}
 use lib.ListN.{getD}
 use Rattle.planner_quiet.proofs.Plannable.{plannable}
-use Rattle.planner.proofs.Words.{whole, kinds-few, loaded}
-use Rattle.planner.proofs.load.Statement.{statement}
-use Rattle.planner.proofs.load.Tie as tie
+use Rattle.planner_settings.proofs.Words.{whole, kinds-few, loaded}
+use Rattle.planner_settings.proofs.load.Statement.{statement}
+use Rattle.planner_settings.proofs.load.Tie as tie
 
 first-fits : tie.Need-word-requires
 first-fits c κs =

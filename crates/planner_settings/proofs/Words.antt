@@ -14,7 +14,7 @@ use Rattle.map.specs.Map.{Part}
 use Rattle.planner_quiet.proofs.Plannable.{Plannable}
 use Rattle.planner_promise.specs.Formed.{formed}
 use Rattle.planner_promise.proofs.Answering.{sound}
-use Rattle.planner.specs.Loaded.{Loaded}
+use Rattle.planner_settings.specs.Loaded.{Loaded}
 
 -- ---- the loop: the bytes of the ports from k on are read
 module _ (s : List ℕ) (at n : ℕ) where

@@ -1,4 +1,4 @@
--- What the code knows of a part, of a setting and of the middle of a plan.
+-- What the code knows of a part and of a setting.
 use mathlib.Core.Bool.{false, cond, _&&_}
 use mathlib.Core.Path.{_≡_}
 use Prim.Native.Nat.{ℕ, suc, _+_, _-_, _*_, _^_, _≤_, _<_}
@@ -7,11 +7,10 @@ use Rattle.bits.specs.Bits.{bit}
 use Rattle.map.specs.Map.{Part, firstOf}
 use Rattle.map.specs.Map.Kind.{Output, Configuration, PortKind, PinKind}
 use Rattle.planner_quiet.specs.Settings.{shapeOf, Settings, bitsOf}
-use Rattle.planner_quiet.specs.Route.{midOutput, midConfiguration}
 use Rattle.planner_promise.specs.Formed.{formed}
 use Rattle.planner_bytes.specs.Bytes.{pinIn}
 use Rattle.planner_bytes.specs.declared.PinSets.{PinSets}
-use Rattle.planner.specs.declared.Layout.{Layout}
+use Rattle.planner_settings.specs.declared.Layout.{Layout}
 
 -- the numbers of a part, and that they are small
 pub record LaidOut (p : Part) (l : Layout) : Type 0 where
@@ -32,12 +31,6 @@ pub record LaidOut (p : Part) (l : Layout) : Type 0 where
 pub record Loaded (p : Part) (s : Settings) (x : PinSets) : Type 0 where
   pub pins : (k j : ℕ) → k < p .ports → j < 8 → pinIn x (8 * k + j) ≡ bitsOf (shapeOf p) s k j
   pub none : (i : ℕ) → 8 * p .ports ≤ i → bit (x .output) i ≡ false
-
--- the pin sets in the middle of the plan
-pub record Halfway (s g m : PinSets) : Type 0 where
-  pub outputs : (i : ℕ) → bit (m .output) i ≡ midOutput (pinIn s i) (pinIn g i)
-  pub configurations : (i : ℕ) → bit (m .configuration) i ≡ midConfiguration (pinIn s i) (pinIn g i)
-  pub flips : m .flip ≡ s .flip
 
 -- the refusals that need no look at a pin, in their order; 0 for none
 abbrev pub early : Part → (start goal : Settings) → (room needed : ℕ) → ℕ

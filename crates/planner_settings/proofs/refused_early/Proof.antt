@@ -1,10 +1,10 @@
--- `planner::refused_early`: each way out is a case of `early`. Assumes nothing.
+-- `planner_settings::refused_early`: each way out is a case of `early`. Assumes nothing.
 use borrow.Author.Needs.{needs}
 use Rattle.map.specs.Map.{partOf}
 use Rattle.planner_promise.proofs.Answering.{fails, holds}
-use Rattle.planner.proofs.Shells.{early-5, early-5-goal, early-6, early-0}
-use Rattle.planner.proofs.refused_early.Statement.{statement}
-use Rattle.planner.proofs.refused_early.Tie as tie
+use Rattle.planner_settings.proofs.Early.{early-5, early-5-goal, early-6, early-0}
+use Rattle.planner_settings.proofs.refused_early.Statement.{statement}
+use Rattle.planner_settings.proofs.refused_early.Tie as tie
 
 returns : tie.Need-returns
 returns c =

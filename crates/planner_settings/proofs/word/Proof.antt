@@ -1,10 +1,10 @@
--- `planner::word`: from the last byte down, each below those before; the invariant is `Reading`. Assumes nothing.
+-- `planner_settings::word`: from the last byte down, each below those before; the invariant is `Reading`. Assumes nothing.
 use borrow.Author.Needs.{needs}
 use Prim.Native.Nat.{_+_, _-_}
 use native.Mathlib.Omega.{arith}
-use Rattle.planner.proofs.Words.{Reading, reading-begins, reading-small, reading-goes, reading-ends}
-use Rattle.planner.proofs.word.Statement.{statement}
-use Rattle.planner.proofs.word.Tie as tie
+use Rattle.planner_settings.proofs.Words.{Reading, reading-begins, reading-small, reading-goes, reading-ends}
+use Rattle.planner_settings.proofs.word.Statement.{statement}
+use Rattle.planner_settings.proofs.word.Tie as tie
 
 abbrev Inv-loop : tie.InvT-loop
 Inv-loop s at n w₀ k₀ w k = Reading s at n w k

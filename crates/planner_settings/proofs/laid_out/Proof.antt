@@ -1,12 +1,13 @@
--- `planner::laid_out`: the numbers of the first part, or of its sister. Assumes nothing.
-use mathlib.Core.Path.{_≡_, refl, sym, subst}
-use Prim.Native.Nat.{ℕ, zero, suc}
+-- `planner_settings::laid_out`: the numbers of the first part, or of its sister. Assumes nothing.
+use mathlib.Core.Path.{refl, sym, subst}
+use Prim.Native.Nat.{ℕ}
 use native.Mathlib.Omega.{arith}
 use Rattle.map.specs.Map.{Part, part24, part34, partOf}
-use Rattle.planner.specs.Loaded.{LaidOut}
-use Rattle.planner.specs.declared.Layout.{Layout}
-use Rattle.planner.proofs.laid_out.Statement.{statement}
-use Rattle.planner.proofs.laid_out.Tie as tie
+use Rattle.map.proofs.Parts.{sister}
+use Rattle.planner_settings.specs.Loaded.{LaidOut}
+use Rattle.planner_settings.specs.declared.Layout.{Layout}
+use Rattle.planner_settings.proofs.laid_out.Statement.{statement}
+use Rattle.planner_settings.proofs.laid_out.Tie as tie
 
 abbrev layout24 : Layout
 layout24 = record { ports = 3; output = 0x04; configuration = 0x0c; kind = 0x5c; flip = 0x70; kinds = 0x07; last = 0xff }
@@ -45,10 +46,6 @@ laid34 = record {
   kinds-is = refl;
   last-is = refl;
 }
-
-sister : (n : ℕ) → (n ≡ 0 → ⊥) → part34 ≡ partOf n
-sister zero h = absurd (h refl)
-sister (suc n) h = refl
 
 returns : tie.Need-returns
 returns c = subst (λ (n : ℕ). LaidOut (partOf n) layout24) (sym (c .if1 .taken)) laid24

@@ -1,0 +1,3 @@
+pub mod Early
+pub mod Formed
+pub mod Words
