@@ -17,11 +17,11 @@ use Rattle.planner_promise.specs.Formed.{formed, roomFor}
 use Rattle.planner_promise.specs.Promise.{bytesOf, refusalOf, countOf}
 use Rattle.planner_promise.specs.Answer.{Answer, refuse, give, answerOf, Answers}
 use Rattle.planner_promise.specs.declared.Planned.{Planned}
-use Rattle.plan_lines.specs.declared.Reading.{Reading}
-use Rattle.plan_lines.specs.Asks.{begun, takenAll, lineRefusal, Holds}
-use Rattle.plan_lines.specs.Lines.{readable, startIn, goalIn}
+use Rattle.plan_fields.specs.declared.Reading.{Reading}
+use Rattle.plan_fields.specs.Asks.{begun, takenAll, lineRefusal, Holds}
+use Rattle.plan_fields.specs.Lines.{readable, startIn, goalIn}
+use Rattle.plan_fields.proofs.Heard.{refused-seven, refused-five, start-heard, goal-heard}
 use Rattle.plan_lines.specs.Told.{answerTo, writesText, planLine, answerText, planText, refusalIn, pairsText, plannedText, Tells}
-use Rattle.plan_lines.proofs.Heard.{refused-seven, refused-five, start-heard, goal-heard}
 
 -- ---- what the planner answered, as text
 bytes-length : (ws : List Write) → length (bytesOf ws) ≡ 2 * length ws

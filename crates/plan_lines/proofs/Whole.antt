@@ -14,7 +14,7 @@ use Rattle.map.specs.Map.{Part}
 use Rattle.planner_quiet.specs.Settings.{registersOf}
 use Rattle.planner_promise.specs.Formed.{roomFor}
 use Rattle.planner_promise.specs.Answer.{answerOf}
-use Rattle.plan_lines.specs.Lines.{hasTab, beforeTab, afterTab, isDigit, inPairs, bytesIn, spelled, readable, startIn, goalIn}
+use Rattle.plan_fields.specs.Lines.{hasTab, beforeTab, afterTab, isDigit, inPairs, bytesIn, spelled, readable, startIn, goalIn}
 use Rattle.plan_lines.specs.Told.{answerTo, answerText, planText}
 use Rattle.plan_lines.proofs.Answering.{five-start, five-goal}
 

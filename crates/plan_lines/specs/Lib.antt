@@ -1,3 +1,1 @@
-pub mod Asks
-pub mod Lines
 pub mod Told

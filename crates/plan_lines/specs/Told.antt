@@ -11,7 +11,7 @@ use Rattle.planner_quiet.specs.Settings.{Write}
 use Rattle.planner_promise.specs.Formed.{roomFor}
 use Rattle.planner_promise.specs.Answer.{Answer, refuse, give, answerOf}
 use Rattle.planner_promise.specs.declared.Planned.{Planned}
-use Rattle.plan_lines.specs.Lines.{readable, startIn, goalIn}
+use Rattle.plan_fields.specs.Lines.{readable, startIn, goalIn}
 
 -- the planner's answer to the settings that the line says; refusal 7 where it is not readable
 unfoldable pub answerTo : Part → (line : List ℕ) → Answer

@@ -1,11 +1,11 @@
 // The work of the programs plan and plan34: a start and a goal as two arguments or as lines on standard input; the part's plan or refusal on standard output.
-ghost use Rattle.plan_lines.specs.Asks.{Said};
+ghost use Rattle.plan_fields.specs.Asks.{Said};
 use device::PART24;
 use device_rules::UNREADABLE;
 use libc::STDERR_FILENO;
 use libc::STDOUT_FILENO;
+use plan_fields::Reading;
 use plan_lines::ROOM;
-use plan_lines::Reading;
 use planner_promise::BAD_SETTING;
 use planner_promise::NO_QUIET_WAY;
 
@@ -114,14 +114,14 @@ fn from_arguments(part: u8) {
         say_refusal(UNREADABLE);
         return;
     }
-    let start = plan_lines::grow(plan_lines::begin(), &word[0..n]);
+    let start = plan_fields::grow(plan_fields::begin(), &word[0..n]);
     let m = os::arg(2, &mut word);
     if os::errno() != 0 {
         say_refusal(UNREADABLE);
         return;
     }
-    let tab = plan_lines::grow(start, b"\t");
-    answer(part, plan_lines::grow(tab, &word[0..m]));
+    let tab = plan_fields::grow(start, b"\t");
+    answer(part, plan_fields::grow(tab, &word[0..m]));
 }
 
 // Lines that came in pieces: what is read of the present one, and whether it holds a byte.
@@ -137,7 +137,7 @@ fn answer_whole(part: u8, r: Reading, whole: bool) -> Reading
 {
     if whole {
         answer(part, r);
-        return plan_lines::begin();
+        return plan_fields::begin();
     }
     r
 }
@@ -154,7 +154,7 @@ fn answer_piece(part: u8, l: Lines, piece: &[u8]) -> Lines
         let line = text_pieces::first_line(rest);
         let len = line.len;
         let taken = line.taken;
-        let read = plan_lines::grow(reading, &rest[0..len]);
+        let read = plan_fields::grow(reading, &rest[0..len]);
         reading = answer_whole(part, read, len < taken);
         any = taken <= len;
         rest = &rest[taken..];
@@ -165,7 +165,7 @@ fn answer_piece(part: u8, l: Lines, piece: &[u8]) -> Lines
 fn from_input(part: u8) {
     let mut piece = io::buffer();
     let mut lines = Lines {
-        reading: plan_lines::begin(),
+        reading: plan_fields::begin(),
         any: false,
     };
     // a proved loop ends: it counts down from a number that no input uses up

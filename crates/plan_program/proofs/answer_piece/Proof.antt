@@ -3,7 +3,7 @@ use borrow.Author.Needs.{needs}
 use Prim.Native.Nat.{_≤_}
 use lib.ListN.{length}
 use Rattle.text_pieces.proofs.Laws.{rest-less}
-use Rattle.plan_lines.specs.Asks.{Said}
+use Rattle.plan_fields.specs.Asks.{Said}
 use Rattle.plan_program.proofs.answer_piece.Statement.{statement}
 use Rattle.plan_program.proofs.answer_piece.Tie as tie
 

@@ -2,7 +2,7 @@
 use borrow.Author.Needs.{needs}
 use mathlib.Core.Path.{_≡_}
 use lib.ListN.{length}
-use Rattle.plan_lines.specs.Asks.{Said}
+use Rattle.plan_fields.specs.Asks.{Said}
 use Rattle.plan_program.proofs.from_input.Statement.{statement}
 use Rattle.plan_program.proofs.from_input.Tie as tie
 

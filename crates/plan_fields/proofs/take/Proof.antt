@@ -1,14 +1,14 @@
--- `plan_lines::take`: a tab, a digit or neither, each as `taken` says. Assumes nothing.
+-- `plan_fields::take`: a tab, a digit or neither, each as `taken` says. Assumes nothing.
 use borrow.Author.Needs.{needs}
 use mathlib.Core.Path.{ap, subst, _∙_}
 use Prim.Native.Nat.{ℕ, _<_, _≤_}
 use native.Mathlib.Nat.{mod-eq-of-lt}
 use borrow.Author.Tests.{eq-eqb, ne-eqb, lt-ltb, le-ltb}
 use Rattle.text.specs.Text.{digitOf}
-use Rattle.plan_lines.specs.Asks.{withDigit, taken}
+use Rattle.plan_fields.specs.Asks.{withDigit, taken}
 use native.Mathlib.Omega.{arith}
-use Rattle.plan_lines.proofs.take.Statement.{statement}
-use Rattle.plan_lines.proofs.take.Tie as tie
+use Rattle.plan_fields.proofs.take.Statement.{statement}
+use Rattle.plan_fields.proofs.take.Tie as tie
 
 returns : tie.Need-returns
 unfolding taken

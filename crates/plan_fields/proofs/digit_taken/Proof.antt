@@ -1,10 +1,10 @@
--- `plan_lines::digit_taken`: the first digit of a byte is kept, the second makes it. Assumes nothing.
+-- `plan_fields::digit_taken`: the first digit of a byte is kept, the second makes it. Assumes nothing.
 use borrow.Author.Needs.{needs}
 use mathlib.Core.Path.{_∙_}
 use borrow.Author.Tests.{eq-eqb, ne-eqb}
-use Rattle.plan_lines.specs.Asks.{digitTaken}
-use Rattle.plan_lines.proofs.digit_taken.Statement.{statement}
-use Rattle.plan_lines.proofs.digit_taken.Tie as tie
+use Rattle.plan_fields.specs.Asks.{digitTaken}
+use Rattle.plan_fields.proofs.digit_taken.Statement.{statement}
+use Rattle.plan_fields.proofs.digit_taken.Tie as tie
 
 returns : tie.Need-returns
 unfolding digitTaken

@@ -1,9 +1,9 @@
--- `plan_lines::byte_taken`: an eleventh byte is counted and not kept. Assumes nothing.
+-- `plan_fields::byte_taken`: a seventeenth byte is counted and not kept. Assumes nothing.
 use borrow.Author.Needs.{needs}
 use borrow.Author.Tests.{lt-ltb, le-ltb}
-use Rattle.plan_lines.specs.Asks.{byteTaken}
-use Rattle.plan_lines.proofs.byte_taken.Statement.{statement}
-use Rattle.plan_lines.proofs.byte_taken.Tie as tie
+use Rattle.plan_fields.specs.Asks.{byteTaken}
+use Rattle.plan_fields.proofs.byte_taken.Statement.{statement}
+use Rattle.plan_fields.proofs.byte_taken.Tie as tie
 
 returns : tie.Need-returns
 unfolding byteTaken

@@ -1,11 +1,11 @@
--- `plan_lines::with_digit`: the digit goes to the field that the tabs name. Assumes nothing.
+-- `plan_fields::with_digit`: the digit goes to the field that the tabs name. Assumes nothing.
 use borrow.Author.Needs.{needs}
 use mathlib.Core.Path.{_≡_, ap, _∙_}
 use borrow.Author.Tests.{eq-eqb, ne-eqb}
-use Rattle.plan_lines.specs.Asks.{reading, withDigit}
-use Rattle.plan_lines.specs.declared.Field.{Field}
-use Rattle.plan_lines.proofs.with_digit.Statement.{statement}
-use Rattle.plan_lines.proofs.with_digit.Tie as tie
+use Rattle.plan_fields.specs.Asks.{reading, withDigit}
+use Rattle.plan_fields.specs.declared.Field.{Field}
+use Rattle.plan_fields.proofs.with_digit.Statement.{statement}
+use Rattle.plan_fields.proofs.with_digit.Tie as tie
 
 returns : tie.Need-returns
 unfolding withDigit

@@ -8,8 +8,8 @@ use lib.ListN.{length, set, replicate}
 use Rattle.text.specs.Text.{digitOf}
 use Rattle.map.specs.Map.{Part}
 use Rattle.planner_quiet.specs.Settings.{registersOf}
-use Rattle.plan_lines.specs.declared.Field.{Field}
-use Rattle.plan_lines.specs.declared.Reading.{Reading}
+use Rattle.plan_fields.specs.declared.Field.{Field}
+use Rattle.plan_fields.specs.declared.Reading.{Reading}
 
 abbrev pub field : List ℕ → (count high : ℕ) → Field
 field bytes count high = record { bytes = bytes; count = count; high = high }

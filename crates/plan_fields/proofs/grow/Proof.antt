@@ -1,4 +1,4 @@
--- `plan_lines::grow`: byte by byte, what is read so far is what the bytes so far say. Assumes nothing.
+-- `plan_fields::grow`: byte by byte, what is read so far is what the bytes so far say. Assumes nothing.
 use borrow.Author.Needs.{needs}
 use native.Mathlib.Omega.{arith}
 use mathlib.Core.Path.{_≡_, refl, ap, sym, _∙_}
@@ -6,11 +6,11 @@ use mathlib.Core.List.{List, _++_}
 use Prim.Native.Nat.{ℕ, _+_, _-_, _≤_}
 use lib.ListN.{length, drop}
 use lib.Seq.{drop-length}
-use Rattle.plan_lines.specs.Asks.{takenAll, Holds}
-use Rattle.plan_lines.specs.declared.Reading.{Reading}
-use Rattle.plan_lines.proofs.Taken.{more-taken, grown-all}
-use Rattle.plan_lines.proofs.grow.Statement.{statement}
-use Rattle.plan_lines.proofs.grow.Tie as tie
+use Rattle.plan_fields.specs.Asks.{takenAll, Holds}
+use Rattle.plan_fields.specs.declared.Reading.{Reading}
+use Rattle.plan_fields.proofs.Taken.{more-taken, grown-all}
+use Rattle.plan_fields.proofs.grow.Statement.{statement}
+use Rattle.plan_fields.proofs.grow.Tie as tie
 
 abbrev Inv-loop : tie.InvT-loop
 Inv-loop part reading₀ i₀ reading i = (i ≤ length part) × (takenAll reading (drop i part) ≡ takenAll reading₀ part)

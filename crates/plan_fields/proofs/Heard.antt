@@ -11,11 +11,11 @@ use lib.ListN.{length, set, take, drop}
 use lib.Seq.{sets, sets-eq, take-at}
 use Rattle.map.specs.Map.{Part}
 use Rattle.planner_quiet.specs.Settings.{registersOf}
-use Rattle.plan_lines.specs.declared.Field.{Field}
-use Rattle.plan_lines.specs.declared.Reading.{Reading}
-use Rattle.plan_lines.specs.Asks.{field, byteTaken, nothing, begun, takenAll, lineRefusal}
-use Rattle.plan_lines.specs.Lines.{readable, startIn, goalIn}
-use Rattle.plan_lines.proofs.Taken.{bytesTaken, start-ended}
+use Rattle.plan_fields.specs.declared.Field.{Field}
+use Rattle.plan_fields.specs.declared.Reading.{Reading}
+use Rattle.plan_fields.specs.Asks.{field, byteTaken, nothing, begun, takenAll, lineRefusal}
+use Rattle.plan_fields.specs.Lines.{readable, startIn, goalIn}
+use Rattle.plan_fields.proofs.Taken.{bytesTaken, start-ended}
 
 -- ---- the bytes that are kept
 byte-kept : (f : Field) (v : ℕ) → f .count < 16 → byteTaken f v ≡ field (set (f .bytes) (f .count) v) (f .count + 1) 16

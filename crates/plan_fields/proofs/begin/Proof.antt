@@ -1,9 +1,9 @@
--- `plan_lines::begin`: nothing is read yet. Assumes nothing.
+-- `plan_fields::begin`: nothing is read yet. Assumes nothing.
 use mathlib.Core.Path.{refl}
 use mathlib.Core.List.{[]}
-use Rattle.plan_lines.specs.Asks.{takenAll}
-use Rattle.plan_lines.proofs.begin.Statement.{statement}
-use Rattle.plan_lines.proofs.begin.Tie as tie
+use Rattle.plan_fields.specs.Asks.{takenAll}
+use Rattle.plan_fields.proofs.begin.Statement.{statement}
+use Rattle.plan_fields.proofs.begin.Tie as tie
 
 returns : tie.Need-returns
 unfolding takenAll

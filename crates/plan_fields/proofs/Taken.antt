@@ -11,10 +11,10 @@ use lib.ListN.{length, getD, drop}
 use lib.Seq.{drop-cons}
 use Rattle.bits.proofs.Decide.{either-arm, clash}
 use Rattle.text.specs.Text.{digitOf}
-use Rattle.plan_lines.specs.declared.Field.{Field}
-use Rattle.plan_lines.specs.declared.Reading.{Reading}
-use Rattle.plan_lines.specs.Asks.{field, byteTaken, digitTaken, reading, nothing, begun, withDigit, taken, takenAll, Holds}
-use Rattle.plan_lines.specs.Lines.{hasTab, beforeTab, afterTab, isDigit, inPairs, bytesIn, readable, startIn, goalIn}
+use Rattle.plan_fields.specs.declared.Field.{Field}
+use Rattle.plan_fields.specs.declared.Reading.{Reading}
+use Rattle.plan_fields.specs.Asks.{field, byteTaken, digitTaken, reading, nothing, begun, withDigit, taken, takenAll, Holds}
+use Rattle.plan_fields.specs.Lines.{hasTab, beforeTab, afterTab, isDigit, inPairs, bytesIn, readable, startIn, goalIn}
 
 -- ---- parts
 all-taken : (r : Reading) (s t : List ℕ) → takenAll r (s ++ t) ≡ takenAll (takenAll r s) t
