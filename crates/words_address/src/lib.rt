@@ -1,38 +1,21 @@
-// Address bytes, and the Device ID that some of them ask for, on words that are packed: for either part.
+// Address bytes, on words that are packed: ours, the general call, and those that ask for a Device ID; for either part.
 ghost use mathlib.Core.Path.{_≡_};
-ghost use Prim.Native.Nat.{ℕ, _<_};
+ghost use Prim.Native.Nat.{ℕ};
 ghost use lib.ListN.{getD};
 ghost use Rattle.map.specs.Map.{partOf};
-ghost use Rattle.device_rules.specs.Device.{byteAt, nextPlace, addressed, byteIn, step as stepOf};
-ghost use Rattle.device_rules.specs.Device.Bus.{Asking, Reopened};
-ghost use Rattle.device_rules.specs.Device.Event.{Start, ByteFetched};
-ghost use Rattle.words_state.specs.Packed.{idIn, stateIn, answerAt, Packed, Leaves};
-use words::BUS;
+ghost use Rattle.device_rules.specs.Device.{addressed, byteIn};
+ghost use Rattle.device_rules.specs.Device.Bus.{Reopened};
+ghost use Rattle.words_state.specs.Packed.{stateIn, answerAt, Packed, Leaves};
 use words::CHOICE;
-use words::ID;
 use words::PLACE;
 use words_state::ACK;
+use words_state::ASKING;
+use words_state::CALL;
+use words_state::CHOSEN;
+use words_state::DEAF;
 use words_state::NAK;
-use words_state::NOTHING;
-
-// Bus states that an address byte, START or a fetch in Telling leads to.
-const OPENED: u64 = 1;
-
-const CHOSEN: u64 = 2;
-
-const SENDING: u64 = 4;
-
-const CALL: u64 = 5;
-
-const DEAF: u64 = 7;
-
-const ASKING: u64 = 8;
-
-const NAMED: u64 = 9;
-
-const REOPENED: u64 = 10;
-
-const TELLING: u64 = 11;
+use words_state::SENDING;
+use words_state::TELLING;
 
 // The bytes that ask for a Device ID, and for its telling.
 const ASKS: u64 = 0xf8;
@@ -61,19 +44,6 @@ pub fn address(words: &mut [u64; 28], value: u8) -> u32
     words_state::goes(words, DEAF, NAK)
 }
 
-// A byte in Asking: our byte, with either lowest bit.
-pub fn asked(words: &mut [u64; 28], value: u8) -> u32
-    requires { ⌜ Packed (getD (now words) 27 0) (now words) ⌝ }
-    ensures { λ a. ⌜ ((c : ℕ) → Packed c (now (words .entry)) → Leaves c (now (words .exit)) (answerAt a) (byteIn (partOf c) Asking (stateIn (partOf c) (now (words .entry))) value)) ⌝ }
-{
-    let address = 2 * (0x20 + words[CHOICE]);
-    let byte = value as u64;
-    if (byte == address) | (byte == address + 1) {
-        return words_state::goes(words, NAMED, ACK);
-    }
-    words_state::goes(words, DEAF, NAK)
-}
-
 // A byte in Reopened: the telling begins at the first byte, or it is an address byte.
 pub fn asked_again(words: &mut [u64; 28], value: u8) -> u32
     requires { ⌜ Packed (getD (now words) 27 0) (now words) ⌝ }
@@ -84,56 +54,4 @@ pub fn asked_again(words: &mut [u64; 28], value: u8) -> u32
         return words_state::goes(words, TELLING, ACK);
     }
     address(words, value)
-}
-
-// START: the repeated one in the question for a Device ID, and elsewhere the first.
-pub fn start(words: &mut [u64; 28]) -> u32
-    requires { ⌜ Packed (getD (now words) 27 0) (now words) ⌝ }
-    ensures { λ a. ⌜ ((c : ℕ) → Packed c (now (words .entry)) → Leaves c (now (words .exit)) (answerAt a) (stepOf (partOf c) (stateIn (partOf c) (now (words .entry))) Start)) ⌝ }
-{
-    let bus = words[BUS];
-    match bus {
-        NAMED => words_state::goes(words, REOPENED, NOTHING),
-        REOPENED => words_state::goes(words, REOPENED, NOTHING),
-        _ => words_state::goes(words, OPENED, NOTHING),
-    }
-}
-
-// The byte of the Device ID that is told next.
-fn byte_told(words: &[u64; 28]) -> u8
-    requires { ⌜ getD (now words) 26 0 < 3 ⌝ }
-    ensures { λ b. ⌜ b ≡ byteAt (idIn (now (words .entry))) ⌝ }
-{
-    let id = words[ID];
-    let place = words[PLACE];
-    match place {
-        0 => ((id >> 16) % 256) as u8,
-        1 => ((id >> 8) % 256) as u8,
-        _ => (id % 256) as u8,
-    }
-}
-
-// The place after it: after the last the first again.
-fn next_place(place: u64) -> u64
-    ensures { λ r. ⌜ (place < 3 → r ≡ nextPlace place) × (r < 3) ⌝ }
-{
-    match place {
-        0 => 1,
-        1 => 2,
-        _ => 0,
-    }
-}
-
-// A fetch in Telling.
-pub fn tell(words: &mut [u64; 28], acknowledged: bool) -> u32
-    requires { ⌜ Packed (getD (now words) 27 0) (now words) ⌝ }
-    ensures { λ a. ⌜ ((c : ℕ) → Packed c (now (words .entry)) → getD (now (words .entry)) 22 0 ≡ 11
-        → Leaves c (now (words .exit)) (answerAt a) (stepOf (partOf c) (stateIn (partOf c) (now (words .entry))) (ByteFetched acknowledged))) ⌝ }
-{
-    let answer = words_state::read(byte_told(&*words));
-    if !acknowledged {
-        return words_state::goes(words, DEAF, answer);
-    }
-    words[PLACE] = next_place(words[PLACE]);
-    answer
 }

@@ -34,9 +34,9 @@ pub fn event(words: &mut [u64; 28], kind: u32, arg: u64) -> Answer
     ensures { λ a. ⌜ Obeys (now (words .entry)) (now (words .exit)) kind arg a ⌝ }
 {
     let part = words[PART];
-    if words_bus::is_command(&*words, kind) {
+    if words_command::is_command(&*words, kind) {
         let wanted = words_rows::row_of(part, (arg % 128) as u8);
-        return words_state::answer(words_bus::command(words, wanted, arg));
+        return words_state::answer(words_command::command(words, wanted, arg));
     }
     let row = words_rows::row_of(part, (words[POINTER] % 128) as u8);
     words_state::answer(words_bus::event(words, map::pins_of(part), row, kind, arg))
@@ -71,11 +71,11 @@ pub fn event_by(
     ensures { λ a. ⌜ Obeys (now (words .entry)) (now (words .exit)) kind arg (answerAt a) ⌝ }
 {
     if kind < BYTE {
-        return words_bus::condition(words, pins, kind);
+        return words_conditions::condition(words, pins, kind);
     }
-    if words_bus::is_command(&*words, kind) {
+    if words_command::is_command(&*words, kind) {
         let wanted = row_in(rows, next, (arg % 128) as usize);
-        return words_bus::command(words, wanted, arg);
+        return words_command::command(words, wanted, arg);
     }
     let row = row_in(rows, next, words[POINTER] as usize);
     words_bus::event(words, pins, row, kind, arg)
@@ -89,9 +89,9 @@ pub fn step(words: &mut [u64; 28], part: u64, kind: u32, arg: u64) -> u32
     if row == 0 {
         return words_state::WRONG_IMAGE;
     }
-    if words_bus::is_command(&*words, kind) {
+    if words_command::is_command(&*words, kind) {
         let wanted = words_rows::row_of(part, (arg % 128) as u8);
-        return words_bus::command(words, wanted, arg);
+        return words_command::command(words, wanted, arg);
     }
     words_bus::event(words, map::pins_of(part), row, kind, arg)
 }

@@ -33,6 +33,31 @@ pub const WRONG_ARGUMENT: u32 = 0x204;
 
 pub const WRONG_IMAGE: u32 = 0x304;
 
+// Bus states.
+pub const IDLE: u64 = 0;
+
+pub const OPENED: u64 = 1;
+
+pub const CHOSEN: u64 = 2;
+
+pub const FILLING: u64 = 3;
+
+pub const SENDING: u64 = 4;
+
+pub const CALL: u64 = 5;
+
+pub const ARMED: u64 = 6;
+
+pub const DEAF: u64 = 7;
+
+pub const ASKING: u64 = 8;
+
+pub const NAMED: u64 = 9;
+
+pub const REOPENED: u64 = 10;
+
+pub const TELLING: u64 = 11;
+
 // INT's level where no status bit is 1.
 const QUIET: u64 = 1;
 
