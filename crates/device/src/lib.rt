@@ -309,7 +309,7 @@ impl Device {
                 byte: 0,
             };
         }
-        let row = words_rows::row_of(self.part as u64, n);
+        let row = words_tables::row_of(self.part as u64, n);
         if row == 0 {
             return Shown {
                 refusal: BAD_ARGUMENT,

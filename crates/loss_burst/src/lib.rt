@@ -111,7 +111,7 @@ pub fn burst(
     }
     let mut rows = [0; 128];
     let mut next = [0; 128];
-    words_rows::put_rows(&mut rows, part);
+    words_tables::put_rows(&mut rows, part);
     map::put_next(&mut next, part);
     run(
         words,

@@ -101,7 +101,7 @@ pub fn make(
         × Beside (now (words .exit)) (now (rows .exit)) (now (next .exit)) (now (told .exit)) (now (kept .exit)) ⌝ }
 {
     words_device::power_on(words, part, choice, levels, NO_ID);
-    words_rows::put_rows(rows, part);
+    words_tables::put_rows(rows, part);
     map::put_next(next, part);
     refresh(&*words, told, kept);
     text_answers::put_line(out, at, words[PART], Answer::Nothing, &*kept)

@@ -100,7 +100,7 @@ fn judged24(words: &[u64; 28]) -> u32
     if !bounded(words, 0, spare) {
         return 0;
     }
-    words_rows::row24((words[POINTER] % 128) as u8)
+    words_rows24::row24((words[POINTER] % 128) as u8)
 }
 
 // And of its sister. One function for both, with the limits as arguments, is a call of six of them in every step.
@@ -111,7 +111,7 @@ fn judged34(words: &[u64; 28]) -> u32
     if !bounded(words, 1, spare) {
         return 0;
     }
-    words_rows::row34((words[POINTER] % 128) as u8)
+    words_rows34::row34((words[POINTER] % 128) as u8)
 }
 
 // The same of the part of that number: there is no third.

@@ -36,7 +36,7 @@ pub fn to_file(words: &[u64; 28], part: u64, file: &mut [u8; 128])
     let _count = counted(&*file);
     let mut n: u8 = 0;
     while n < 128 {
-        file[n as usize] = words_views::entry(words, words_rows::row_of(part, n));
+        file[n as usize] = words_views::entry(words, words_tables::row_of(part, n));
         n += 1;
     }
 }
@@ -51,7 +51,7 @@ fn from_file(words: &mut [u64; 28], part: u64, file: &[u8; 128])
     let mut n: u8 = 0;
     while n < 128 {
         let v = file[n as usize];
-        words_writes::store(words, words_rows::row_of(part, n), v);
+        words_writes::store(words, words_tables::row_of(part, n), v);
         n += 1;
     }
 }
@@ -64,7 +64,7 @@ fn stand_for(words: &[u64; 28], part: u64, file: &[u8; 128]) -> bool
     let _count = counted(file);
     let mut n: u8 = 0;
     while n < 128 {
-        if words_views::entry(words, words_rows::row_of(part, n)) != file[n as usize] {
+        if words_views::entry(words, words_tables::row_of(part, n)) != file[n as usize] {
             return false;
         }
         n += 1;

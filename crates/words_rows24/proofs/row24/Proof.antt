@@ -1,12 +1,12 @@
--- `words_rows::row24`: each arm is the row that the map gives, which antt computes. Assumes nothing.
+-- `words_rows24::row24`: each arm is the row that the map gives, which antt computes. Assumes nothing.
 use mathlib.Core.Path.{_≡_, sym, ap}
 use Prim.Native.Nat.{ℕ}
 use Rattle.map.specs.Map.{part24, kindAt, reserved, next}
 use Rattle.words.specs.Words.{slotAt, digitAt}
 use Rattle.words_rows.specs.Rows.{rowAt}
 use Rattle.words_rows.proofs.Taken.{none-left}
-use Rattle.words_rows.proofs.row24.Statement.{statement}
-use Rattle.words_rows.proofs.row24.Tie as tie
+use Rattle.words_rows24.proofs.row24.Statement.{statement}
+use Rattle.words_rows24.proofs.row24.Tie as tie
 
 here : {n : ℕ} (k : ℕ) → n ≡ k → rowAt part24 k ≡ rowAt part24 n
 here k e = ap (rowAt part24) (sym e)

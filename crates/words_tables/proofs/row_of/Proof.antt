@@ -1,12 +1,12 @@
--- `words_rows::row_of`: the first part's row, or the sister's. Assumes nothing.
+-- `words_tables::row_of`: the first part's row, or the sister's. Assumes nothing.
 use borrow.Author.Needs.{needs}
 use mathlib.Core.Path.{sym, ap, _∙_}
 use Prim.Native.Nat.{ℕ}
 use Rattle.map.specs.Map.{Part, partOf}
 use Rattle.words_rows.specs.Rows.{rowAt}
 use Rattle.map.proofs.Parts.{sister}
-use Rattle.words_rows.proofs.row_of.Statement.{statement}
-use Rattle.words_rows.proofs.row_of.Tie as tie
+use Rattle.words_tables.proofs.row_of.Statement.{statement}
+use Rattle.words_tables.proofs.row_of.Tie as tie
 
 returns : tie.Need-returns
 returns c = c .row24 .ensures ∙ ap (λ (p : ℕ). rowAt (partOf p) (c .before .before .args .n)) (sym (c .before .if1 .taken))

@@ -1,12 +1,12 @@
--- `words_rows::row34`: each arm is the row that the map gives, which antt computes. Assumes nothing.
+-- `words_rows34::row34`: each arm is the row that the map gives, which antt computes. Assumes nothing.
 use mathlib.Core.Path.{_≡_, sym, ap}
 use Prim.Native.Nat.{ℕ}
 use Rattle.map.specs.Map.{part34, kindAt, reserved, next}
 use Rattle.words.specs.Words.{slotAt, digitAt}
 use Rattle.words_rows.specs.Rows.{rowAt}
 use Rattle.words_rows.proofs.Taken.{none-left}
-use Rattle.words_rows.proofs.row34.Statement.{statement}
-use Rattle.words_rows.proofs.row34.Tie as tie
+use Rattle.words_rows34.proofs.row34.Statement.{statement}
+use Rattle.words_rows34.proofs.row34.Tie as tie
 
 here : {n : ℕ} (k : ℕ) → n ≡ k → rowAt part34 k ≡ rowAt part34 n
 here k e = ap (rowAt part34) (sym e)

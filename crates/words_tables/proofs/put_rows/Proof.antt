@@ -1,12 +1,12 @@
--- `words_rows::put_rows`: each entry of each part's table is what the map gives, the successor left out, which antt computes. Assumes nothing.
+-- `words_tables::put_rows`: each entry of each part's table is what the map gives, the successor left out, which antt computes. Assumes nothing.
 use mathlib.Core.Path.{sym}
 use Rattle.bits.proofs.Decide.{each}
 use Rattle.map.specs.Map.{kindAt, reserved}
 use Rattle.map.proofs.Parts.{sister}
 use Rattle.words.specs.Words.{slotAt, digitAt}
 use Rattle.words_rows.specs.Rows.{bareAt}
-use Rattle.words_rows.proofs.put_rows.Statement.{statement}
-use Rattle.words_rows.proofs.put_rows.Tie as tie
+use Rattle.words_tables.proofs.put_rows.Statement.{statement}
+use Rattle.words_tables.proofs.put_rows.Tie as tie
 
 returns : tie.Need-returns
 unfolding bareAt slotAt digitAt kindAt reserved
