@@ -9,7 +9,8 @@ use Rattle.bits.proofs.Decide.{clash}
 use Rattle.map.specs.Map.{partOf}
 use Rattle.words.specs.Words.{wideOf}
 use Rattle.words_rows.specs.Rows.{rowAt}
-use Rattle.words_state.specs.Packed.{Judged, Bounded, Limits}
+use Rattle.words_spare.specs.Spare.{Limits}
+use Rattle.words_state.specs.Packed.{Judged, Bounded}
 use Rattle.words_state.proofs.Judging.{bounded-of, row-there, packed-of, no-row}
 
 pub limits24 : Limits 0 0xff_ffff 0x7 0xffff 0xff

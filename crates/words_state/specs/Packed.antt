@@ -2,8 +2,7 @@
 use mathlib.Core.Path.{_≡_}
 use mathlib.Core.Bool.{false}
 use mathlib.Core.List.{List, [], _∷_}
-use Prim.Native.Nat.{ℕ, zero, suc, _-_, _/_, _%_, _^_, _<_}
-use lib.Bits.{bitOr}
+use Prim.Native.Nat.{ℕ, _/_, _%_, _^_, _<_}
 use lib.ListN.{getD}
 use Rattle.map.specs.Map.{Part, reserved, partOf}
 use Rattle.device_rules.specs.Device.{Identity, State, Outcome, identity, state, out}
@@ -12,7 +11,7 @@ use Rattle.device_rules.specs.declared.Answer.the-variants.{Nothing, Ack, Nak, 
 use Rattle.device_rules.specs.Refusals.{stepped}
 use Rattle.registers.specs.Registers.{Core}
 use Rattle.registers.specs.Interrupt.{workedOut}
-use Rattle.words.specs.Words.{coreIn, interruptIn, wideOf, portKindWord, debounceEnableWord, debounceCountWord, Fit}
+use Rattle.words.specs.Words.{coreIn, interruptIn, Fit}
 use Rattle.words_rows.specs.Rows.{rowAt}
 
 abbrev pub pointerWord : ℕ
@@ -101,18 +100,6 @@ pub record Bounded (c : ℕ) (w : List ℕ) : Type 0 where
   pub id-small : getD w idWord 0 < 2 ^ 24
   pub place-small : getD w placeWord 0 < 3
   pub part-is : getD w partWord 0 ≡ c
-
--- the bits that exist in each word of the part: of a pin set, of the output port kind, of debounce enable and of debounce count
-pub record Limits (c pins kinds enables counts : ℕ) : Type 0 where
-  pub pins-are : pins ≡ 2 ^ partOf c .width - 1
-  pub kinds-are : kinds ≡ 2 ^ wideOf (partOf c) portKindWord - 1
-  pub enables-are : enables ≡ 2 ^ wideOf (partOf c) debounceEnableWord - 1
-  pub counts-are : counts ≡ 2 ^ wideOf (partOf c) debounceCountWord - 1
-
--- the bits that some word up to n has
-abbrev pub unionTo : List ℕ → ℕ → ℕ
-unionTo w zero = getD w 0 0
-unionTo w (suc n) = bitOr (unionTo w n) (getD w (suc n) 0)
 
 -- the words after a reset but for the pins: no status bit, INT quiet
 abbrev pub resetWords : (pins choice id part : ℕ) → List ℕ

@@ -1,4 +1,4 @@
--- `words_fits::bounded`: nothing that may not be set is (`tested`, `passes`). Assumes nothing.
+-- `words_bounds::bounded`: nothing that may not be set is (`tested`, `passes`). Assumes nothing.
 use borrow.Author.Needs.{needs}
 use mathlib.Core.Path.{refl, sym, ap, _∙_}
 use mathlib.Core.Bool.{false}
@@ -8,9 +8,9 @@ use lib.ListN.{getD}
 use native.Mathlib.Omega.{arith}
 use borrow.Author.Tests.{eqb-true, eq-eqb}
 use Rattle.bits.proofs.Decide.{clash}
-use Rattle.words_fits.proofs.Testing.{tested, passes}
-use Rattle.words_fits.proofs.bounded.Statement.{statement}
-use Rattle.words_fits.proofs.bounded.Tie as tie
+use Rattle.words_bounds.proofs.Testing.{tested, passes}
+use Rattle.words_bounds.proofs.bounded.Statement.{statement}
+use Rattle.words_bounds.proofs.bounded.Tie as tie
 
 returns : tie.Need-returns
 returns c = (λ r. clash false r refl, λ b. absurd (let h = c .if1 .taken in omega (arith, b .bus-small)))

@@ -1,13 +1,13 @@
--- `words_fits::spare`: no bit is left exactly if the words fit the part (`fit-of-spare`, `spare-of-fit`). Assumes nothing.
+-- `words_spare::spare`: no bit is left exactly if the words fit the part (`fit-of-spare`, `spare-of-fit`). Assumes nothing.
 use borrow.Author.Needs.{needs}
 use mathlib.Core.Path.{_≡_, sym, ap, _∙_}
 use Prim.Native.Nat.{ℕ}
 use lib.Bits.{bitOr}
 use lib.ListN.{getD}
 use Rattle.bits.specs.Bits.{without}
-use Rattle.words_fits.proofs.Testing.{fit-of-spare, spare-of-fit}
-use Rattle.words_fits.proofs.spare.Statement.{statement}
-use Rattle.words_fits.proofs.spare.Tie as tie
+use Rattle.words_spare.proofs.Laws.{fit-of-spare, spare-of-fit}
+use Rattle.words_spare.proofs.spare.Statement.{statement}
+use Rattle.words_spare.proofs.spare.Tie as tie
 
 returns : tie.Need-returns
 returns c =
