@@ -118,7 +118,7 @@ impl Device {
         let mut words = [0u64; 28];
         words_device::power_on(&mut words, part as u64, 0, 0, 0);
         let mut file = [0u8; 128];
-        words_images::to_file(&words, part as u64, &mut file);
+        words_files::to_file(&words, part as u64, &mut file);
         file
     }
 

@@ -152,7 +152,7 @@ pub fn unpack(
     if !words_fits::fits(words, part) {
         return BAD_IMAGE;
     }
-    words_images::to_file(words, part, registers);
+    words_files::to_file(words, part, registers);
     *pins = [words[LEVEL], words[REFERENCE], words[HELD], words[EDGE]];
     *rest = [
         words[POINTER],

@@ -1,5 +1,4 @@
 // Address bytes, on words that are packed: ours, the general call, and those that ask for a Device ID; for either part.
-ghost use mathlib.Core.Path.{_≡_};
 ghost use Prim.Native.Nat.{ℕ};
 ghost use lib.ListN.{getD};
 ghost use Rattle.map.specs.Map.{partOf};

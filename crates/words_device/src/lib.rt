@@ -1,10 +1,10 @@
 // The device on words that are lent: made; stepped with every refusal, whatever they hold, and where they are known to be packed without the test of refusal 3.
 ghost use mathlib.Core.Path.{_≡_};
-ghost use Prim.Native.Nat.{ℕ, _^_, _<_};
+ghost use Prim.Native.Nat.{_^_, _<_};
 ghost use lib.ListN.{getD};
-ghost use Rattle.map.specs.Map.{partOf, Stepping};
+ghost use Rattle.map.specs.Map.{partOf};
 ghost use Rattle.device_rules.specs.PowerOn.{powerOn};
-ghost use Rattle.words_rows.specs.Rows.{rowAt, Rowed, Tabled};
+ghost use Rattle.words_rows.specs.Rows.{Tabled};
 ghost use Rattle.words_state.specs.Packed.{stateIn, answerAt, Packed, Steps};
 ghost use Rattle.words_device.specs.Named.{Named, Obeys};
 use device_rules::Answer;
@@ -42,22 +42,6 @@ pub fn event(words: &mut [u64; 28], kind: u32, arg: u64) -> Answer
     words_state::answer(words_bus::event(words, map::pins_of(part), row, kind, arg))
 }
 
-// A number that fits a row.
-fn wide(byte: u8) -> u32
-    ensures { λ r. ⌜ r ≡ byte ⌝ }
-{
-    byte as u32
-}
-
-// The row of a register out of the part's two tables: its successor from the second.
-fn row_in(rows: &[u32; 128], next: &[u8; 128], number: usize) -> u32
-    requires { ⌜ number < 128 ⌝ }
-    ensures { λ r. ⌜ ((part : ℕ) → Rowed (partOf part) (now (rows .entry)) → Stepping (partOf part) (now (next .entry)) → r ≡ rowAt (partOf part) number) ⌝ }
-{
-    let successor = wide(next[number]);
-    rows[number] | (successor << 15)
-}
-
 // The same with the part's tables and its pins lent, its answer as a number: what a loop calls. START and STOP, three of ten events of a host's traffic, ask for no row.
 pub fn event_by(
     words: &mut [u64; 28],
@@ -74,10 +58,10 @@ pub fn event_by(
         return words_conditions::condition(words, pins, kind);
     }
     if words_command::is_command(&*words, kind) {
-        let wanted = row_in(rows, next, (arg % 128) as usize);
+        let wanted = words_tables::row_in(rows, next, (arg % 128) as usize);
         return words_command::command(words, wanted, arg);
     }
-    let row = row_in(rows, next, words[POINTER] as usize);
+    let row = words_tables::row_in(rows, next, words[POINTER] as usize);
     words_bus::event(words, pins, row, kind, arg)
 }
 

@@ -1,13 +1,12 @@
 // The words out of an image, and an image out of them.
 ghost use mathlib.Core.Path.{_≡_};
 ghost use mathlib.Core.Bool.{true};
-ghost use Prim.Native.Nat.{ℕ, _<_};
-ghost use lib.ListN.{length, getD};
-ghost use Rattle.map.specs.Map.{fileFits, partOf};
+ghost use lib.ListN.{getD};
+ghost use Rattle.map.specs.Map.{partOf};
 ghost use Rattle.registers.specs.Registers.{core};
 ghost use Rattle.registers.specs.Interrupt.{interrupt};
 ghost use Rattle.device_rules.specs.Device.{identity, state};
-ghost use Rattle.words.specs.Words.{fileOf, Fit};
+ghost use Rattle.words.specs.Words.{fileOf};
 ghost use Rattle.words_images.specs.Images.{Packs, restIn};
 use device_rules::Rest;
 use pins::Sets;
@@ -20,57 +19,6 @@ use words::PART;
 use words::PLACE;
 use words::POINTER;
 use words::STATUS;
-
-// A file has 128 entries.
-fn counted(file: &[u8; 128]) -> usize
-    ensures { λ r. ⌜ length (now (file .entry)) ≡ 128 ⌝ }
-{
-    let all: &[u8] = file;
-    all.len()
-}
-
-// The register file that the words stand for.
-pub fn to_file(words: &[u64; 28], part: u64, file: &mut [u8; 128])
-    ensures { λ r. ⌜ now (file .exit) ≡ fileOf (partOf part) (now (words .entry)) ⌝ }
-{
-    let _count = counted(&*file);
-    let mut n: u8 = 0;
-    while n < 128 {
-        file[n as usize] = words_views::entry(words, words_tables::row_of(part, n));
-        n += 1;
-    }
-}
-
-// The words that stand for a register file.
-fn from_file(words: &mut [u64; 28], part: u64, file: &[u8; 128])
-    ensures { λ r. ⌜ Fit (partOf part) (now (words .exit))
-        × (fileFits (partOf part) (now (file .entry)) ≡ true → fileOf (partOf part) (now (words .exit)) ≡ now (file .entry)) ⌝ }
-{
-    let _count = counted(file);
-    *words = [0; 28];
-    let mut n: u8 = 0;
-    while n < 128 {
-        let v = file[n as usize];
-        words_writes::store(words, words_tables::row_of(part, n), v);
-        n += 1;
-    }
-}
-
-// Whether the words stand for this register file.
-fn stand_for(words: &[u64; 28], part: u64, file: &[u8; 128]) -> bool
-    ensures { λ t. ⌜ (t ≡ true → fileOf (partOf part) (now (words .entry)) ≡ now (file .entry))
-        × (fileOf (partOf part) (now (words .entry)) ≡ now (file .entry) → t ≡ true) ⌝ }
-{
-    let _count = counted(file);
-    let mut n: u8 = 0;
-    while n < 128 {
-        if words_views::entry(words, words_tables::row_of(part, n)) != file[n as usize] {
-            return false;
-        }
-        n += 1;
-    }
-    true
-}
 
 // The words become those of an image of the part, if it fits.
 pub fn pack(
@@ -90,7 +38,7 @@ pub fn pack(
     ensures { λ fits. ⌜ Packs part (state (core (now (file .entry)) sets) (interrupt status line) pointer mode bus choice (identity number place)) fits (now (words .entry)) (now (words .exit)) ⌝ }
 {
     let mut fresh = [0u64; 28];
-    from_file(&mut fresh, part, file);
+    words_files::from_file(&mut fresh, part, file);
     words::put_sets(&mut fresh, sets);
     fresh[POINTER] = pointer;
     fresh[BUS] = bus;
@@ -101,7 +49,7 @@ pub fn pack(
     fresh[ID] = number;
     fresh[PLACE] = place;
     fresh[PART] = part;
-    if !stand_for(&fresh, part, file) {
+    if !words_files::stand_for(&fresh, part, file) {
         return false;
     }
     if !words_fits::fits(&fresh, part) {
@@ -116,7 +64,7 @@ pub fn unpack(words: &[u64; 28], file: &mut [u8; 128]) -> Rest
     ensures { λ r. ⌜ (now (file .exit) ≡ fileOf (partOf (getD (now (words .entry)) 27 0)) (now (words .entry))) × (r ≡ restIn (now (words .entry))) ⌝ }
 {
     let part = words[PART];
-    to_file(words, part, file);
+    words_files::to_file(words, part, file);
     let sets = words::sets_in(words);
     let pointer = (words[POINTER] % 256) as u8;
     let bus = (words[BUS] % 256) as u8;

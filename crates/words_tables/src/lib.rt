@@ -1,7 +1,7 @@
-// The rows of a part that is given by its number: one of them, or all in one piece for a loop.
+// The rows of a part that is given by its number: one of them, or all in one piece for a loop, and one out of that.
 ghost use mathlib.Core.Path.{_≡_};
-ghost use Prim.Native.Nat.{_<_};
-ghost use Rattle.map.specs.Map.{partOf};
+ghost use Prim.Native.Nat.{ℕ, _<_};
+ghost use Rattle.map.specs.Map.{partOf, Stepping};
 ghost use Rattle.words_rows.specs.Rows.{rowAt, Rowed};
 
 // The rows of the 24-pin part in one piece, but for their successors, which the map's table has.
@@ -277,6 +277,22 @@ pub fn put_rows(rows: &mut [u32; 128], part: u64)
         return;
     }
     *rows = ROWS34;
+}
+
+// A number that fits a row.
+fn wide(byte: u8) -> u32
+    ensures { λ r. ⌜ r ≡ byte ⌝ }
+{
+    byte as u32
+}
+
+// The row of a register out of the part's two tables: its successor from the second.
+pub fn row_in(rows: &[u32; 128], next: &[u8; 128], number: usize) -> u32
+    requires { ⌜ number < 128 ⌝ }
+    ensures { λ r. ⌜ ((part : ℕ) → Rowed (partOf part) (now (rows .entry)) → Stepping (partOf part) (now (next .entry)) → r ≡ rowAt (partOf part) number) ⌝ }
+{
+    let successor = wide(next[number]);
+    rows[number] | (successor << 15)
 }
 
 // The row of a part that is given by its number.

@@ -2,7 +2,6 @@
 ghost use mathlib.Core.Path.{_≡_};
 ghost use mathlib.Core.Bool.{false, cond};
 ghost use Prim.Native.Nat.{ℕ, _-_, _*_, _/_, _^_, _<_};
-ghost use lib.Bits.{bitAnd};
 ghost use lib.ListN.{getD};
 ghost use Rattle.bits.specs.Bits.{bit};
 ghost use Rattle.pins.specs.AllPins.{PinsOf, sourceAt, asserted};
@@ -11,7 +10,7 @@ ghost use Rattle.map.specs.Map.{kindAt, reserved, partOf};
 ghost use Rattle.map.specs.Map.Kind.{Input, InputStatus};
 ghost use Rattle.registers.specs.Registers.{levelled, fetched, drivenLow, drivenHigh, intAsserted};
 ghost use Rattle.registers.specs.Interrupt.{workedOut, shownKept};
-ghost use Rattle.words.specs.Words.{entryOf, coreIn, interruptIn, withInterrupt, wordsAt, pinIn, zipped, Fit, PinLevels, Holds};
+ghost use Rattle.words.specs.Words.{coreIn, interruptIn, withInterrupt, wordsAt, pinIn, Fit, PinLevels, Holds};
 ghost use Rattle.words_rows.specs.Rows.{rowAt, wordIn, Known};
 use pins::Sources;
 use words::CONFIGURATION;
@@ -25,8 +24,6 @@ use words::POLARITY;
 use words::PORT_KIND;
 use words::RISING;
 use words::STATUS;
-use words::STRENGTH_HIGH;
-use words::STRENGTH_LOW;
 
 // The registers that events depend on.
 fn sources(words: &[u64; 28]) -> Sources
@@ -116,43 +113,6 @@ pub fn high(words: &[u64; 28]) -> u64
     pins_views::driven_high(words[CONFIGURATION], words[OUTPUT], kinds, words[PIN_KIND])
 }
 
-// Four bits of a word.
-fn half(word: u64, k: u8) -> u8
-    requires { ⌜ k < 16 ⌝ }
-    ensures { λ r. ⌜ (r ≡ bitAnd (word / 2 ^ (4 * k)) 15) × (r < 16) ⌝ }
-{
-    ((word >> (4 * k)) & 15) as u8
-}
-
-// A byte of two halves: even bits and odd bits.
-fn zip(lo: u8, hi: u8) -> u8
-    requires { ⌜ (lo < 16) × (hi < 16) ⌝ }
-    ensures { λ r. ⌜ r ≡ zipped lo hi ⌝ }
-{
-    let low = (lo & 1) | ((lo & 2) << 1) | ((lo & 4) << 2) | ((lo & 8) << 3);
-    low | ((hi & 1) << 1) | ((hi & 2) << 2) | ((hi & 4) << 3) | ((hi & 8) << 4)
-}
-
-// The byte that the register holds.
-pub fn entry(words: &[u64; 28], row: u32) -> u8
-    requires { ⌜ wordIn row < 28 ⌝ }
-    ensures { λ b. ⌜ ((part n : ℕ) → n < 128 → row ≡ rowAt (partOf part) n → b ≡ entryOf (partOf part) (now (words .entry)) n) ⌝ }
-{
-    let port = words_rows::port(row);
-    let fourth = words_rows::fourth(row);
-    let rule = words_rows::rule(row);
-    match rule {
-        words_rows::EDGE => zip(half(words[RISING], fourth), half(words[FALLING], fourth)),
-        words_rows::DRIVE_STRENGTH => zip(
-            half(words[STRENGTH_LOW], fourth),
-            half(words[STRENGTH_HIGH], fourth),
-        ),
-        words_rows::CLEAR => 0,
-        0..=words_rows::INPUT_STATUS => 0,
-        _ => ports::byte_of(words[words_rows::word(row)], port),
-    }
-}
-
 // The byte that a register of input port bits shows: an input port register, or an input status register.
 pub fn show_inputs(words: &[u64; 28], row: u32) -> u8
     ensures { λ b. ⌜ ((part n : ℕ) → reserved (partOf part) n ≡ false → row ≡ rowAt (partOf part) n
@@ -173,7 +133,7 @@ pub fn show(words: &[u64; 28], row: u32) -> u8
         words_rows::INPUT => show_inputs(words, row),
         words_rows::INPUT_STATUS => show_inputs(words, row),
         words_rows::STATUS => ports::byte_of(words[STATUS], words_rows::port(row)),
-        _ => entry(words, row),
+        _ => words_entries::entry(words, row),
     }
 }
 

@@ -1,5 +1,5 @@
 -- The words that a write leaves hold the register file and the pins that the rules say: what is stored by `Storing`, what moves by `Moving`. Assumes nothing.
-use mathlib.Core.Path.{_≡_, refl, sym, ap, ap₂, _∙_}
+use mathlib.Core.Path.{_≡_, refl, sym, ap, _∙_}
 use mathlib.Core.Bool.{Bool, true, false, cond, _&&_}
 use mathlib.Core.List.{List}
 use Prim.Native.Nat.{ℕ, _+_, _-_, _<_}
@@ -11,10 +11,9 @@ use lib.Seq.{getD-set-other}
 use Rattle.bits.specs.Bits.{bit}
 use Rattle.bits.proofs.Decide.{clash}
 use Rattle.pins.specs.Pin.{Pin, only}
-use Rattle.pins.specs.AllPins.{Within, mapPins}
+use Rattle.pins.specs.AllPins.{mapPins}
 use Rattle.pins.specs.OnePin.{Happening, pinAfter}
 use Rattle.pins.specs.OnePin.Happening.{Elsewhere}
-use Rattle.pins.specs.declared.Sets.{Sets}
 use Rattle.ports.specs.Ports.{inPort, portBit, inEdge, risingBit, fallingBit}
 use Rattle.map.specs.Map.{Part, Kind, kindAt, firstOf, code, stored, keptIn, partOf}
 use Rattle.registers.specs.Registers.{core, keptAs, written, writtenTo}
@@ -25,11 +24,6 @@ use Rattle.words.proofs.Storing.{pair-case, wrote-one, fit-one, wrote-two, fit-
 use Rattle.words_rows.specs.Rows.{ruleAt}
 use Rattle.words_rows.proofs.Taken.{its-kind, its-word}
 use Rattle.words.proofs.Holding.{within, pin-word, holds-written, holds-kept, holds-stored}
-
--- the pins taken out, changed and put back
-pub put-back : {u s w' : List ℕ} {x v y : Sets} (f : ℕ → Pin → Pin) (width : ℕ) → x ≡ v → (Within width x → y ≡ mapPins width x f) → u ≡ s → w' ≡ withSets u y
-    → Within width v → w' ≡ withSets s (mapPins width v f)
-put-back f width ex ey eu e d = e ∙ ap₂ (λ (u : List ℕ) (y : Sets). withSets u y) eu (ey (rw ex d) ∙ ap (λ (x : Sets). mapPins width x f) ex)
 
 -- a bit of the written byte at a pin that it holds
 there : (h : Bool) {b a l : Bool} → b ≡ (h && (a && l)) → l ≡ true → h ≡ true → b ≡ a

@@ -1,6 +1,6 @@
 -- `words_bounds::stale`: what is kept against what is worked out (`status-worked`, `line-worked`). Assumes nothing.
 use borrow.Author.Needs.{needs}
-use mathlib.Core.Path.{_≡_, sym, ap, _∙_}
+use mathlib.Core.Path.{sym, ap, _∙_}
 use lib.ListN.{getD}
 use Rattle.map.specs.Map.{partOf}
 use Rattle.registers.specs.Interrupt.{Interrupt}

@@ -1,6 +1,6 @@
 -- `words_spare::spare`: no bit is left exactly if the words fit the part (`fit-of-spare`, `spare-of-fit`). Assumes nothing.
 use borrow.Author.Needs.{needs}
-use mathlib.Core.Path.{_≡_, sym, ap, _∙_}
+use mathlib.Core.Path.{sym, ap, _∙_}
 use Prim.Native.Nat.{ℕ}
 use lib.Bits.{bitOr}
 use lib.ListN.{getD}
