@@ -20,7 +20,7 @@ use Rattle.device_demands.specs.Run.{Asked, after, answers}
 use Rattle.device_demands.proofs.Keeps.{WellFormed, image-of, stepped-keeps, power-on-fits}
 use Rattle.device_demands.proofs.Runs.{image-kept}
 use Rattle.words_events.specs.Events.{Sent, sent, halved, wholeOf, one}
-use Rattle.words_burst.specs.Burst.{Ran, ended, onto, twoOf, afterOne, ran}
+use Rattle.words_runs.specs.Runs.{Ran, ended, onto, twoOf, afterOne, ran}
 use Rattle.words_events.proofs.Doing.{or-true}
 use Rattle.device_burst.specs.BurstRuns.{asSent, sentAs, untilRefused, twosOf, RunsAs}
 

@@ -12,7 +12,7 @@ use Rattle.device_rules.specs.declared.Answer.{Answer}
 use Rattle.device_rules.specs.declared.Answer.the-variants.{Nothing}
 use Rattle.device_demands.specs.Run.{Asked, after}
 use Rattle.words_events.specs.Events.{Sent, sent, halved}
-use Rattle.words_burst.specs.Burst.{Ran, twoOf}
+use Rattle.words_runs.specs.Runs.{Ran, twoOf}
 
 -- an event as it is sent: its argument in two halves where the part takes both, else the third word 0
 abbrev pub asSent : Part → Asked → Sent

@@ -9,11 +9,12 @@ use Rattle.bits.proofs.Decide.{clash}
 use Rattle.map.specs.Map.{partOf}
 use Rattle.words_state.specs.Packed.{stateIn, Packed}
 use Rattle.words_events.specs.Events.{sentOf, eight}
-use Rattle.words_burst.specs.Burst.{ran, Left}
+use Rattle.words_runs.specs.Runs.{ran, Left}
 use Rattle.words_burst.proofs.Calling as burst
 use Rattle.loss_rules.specs.Marks.{marksFit}
 use Rattle.loss_sets.specs.Sets.{marksIn}
-use Rattle.loss_burst.specs.MarkedBurst.{marksOver, passes, MarkedBursts}
+use Rattle.loss_runs.specs.MarkedRuns.{marksOver}
+use Rattle.loss_burst.specs.MarkedBurst.{passes, MarkedBursts}
 
 module _ (c : ℕ) (w m bytes : List ℕ) (asked : ℕ) (answers done : List ℕ) where
   abbrev fits : Bool

@@ -1,28 +1,17 @@
 -- Many events in one call with loss marks: the burst without marks, and what its events set.
 use mathlib.Core.Path.{_≡_}
-use mathlib.Core.Bool.{Bool, true, false, cond, _||_}
+use mathlib.Core.Bool.{Bool, true, false, _||_}
 use mathlib.Core.List.{List, [], _∷_}
 use Prim.Native.Nat.{ℕ}
 use lib.Dec.{eqb}
 use lib.ListN.{length}
-use Rattle.map.specs.Map.{Part, partOf}
-use Rattle.device_rules.specs.Device.{State}
-use Rattle.device_rules.specs.Refusals.{eventOf}
-use Rattle.device_rules.specs.Answers.{answerKind}
+use Rattle.map.specs.Map.{partOf}
 use Rattle.words_state.specs.Packed.{stateIn, Packed}
-use Rattle.words_events.specs.Events.{Sent, sentOf, wholeOf, one, eight}
+use Rattle.words_events.specs.Events.{sentOf, eight}
 use Rattle.words_burst.specs.Burst.{Bursts}
-use Rattle.loss_rules.specs.Marks.{Marks, marksAfter, marksFit}
+use Rattle.loss_rules.specs.Marks.{marksFit}
 use Rattle.loss_sets.specs.Sets.{marksIn}
-
--- the marks after one event as it is sent
-abbrev pub markedBy : Part → State → Sent → Marks → Marks
-markedBy p s e m = marksAfter p s (eventOf (e .kind) (wholeOf e)) (one p s e) m
-
--- the marks after events in order, until one is refused
-unfoldable pub marksOver : Part → State → Marks → List Sent → Marks
-marksOver p s m [] = m
-marksOver p s m (e ∷ es) = cond (eqb (answerKind (one p s e .answer)) 4) m (marksOver p (one p s e .after) (markedBy p s e m) es)
+use Rattle.loss_runs.specs.MarkedRuns.{marksOver}
 
 -- 8 is tested first, then whether none is asked, and only then the marks
 abbrev pub passes : (bad : Bool) → (asked : ℕ) → (fit : Bool) → Bool

@@ -14,12 +14,12 @@ use Rattle.device_rules.specs.Answers.{answerKind, refusalNumber}
 use Rattle.device_rules.specs.declared.Answer.the-variants.{Refused}
 use Rattle.device_demands.specs.Run.{Asked}
 use Rattle.words_events.specs.Events.{sent, halved, wholeOf}
-use Rattle.words_burst.specs.Burst.{ended, onto, twoOf, afterOne, ran}
+use Rattle.words_runs.specs.Runs.{ended, onto, twoOf, afterOne, ran}
 use Rattle.device_burst.specs.BurstRuns.{asSent, sentAs}
 use Rattle.device_burst.proofs.BurstRuns.{sent-steps}
 use Rattle.loss_rules.specs.Marks.{Marks, marksAfter, marksFit, markedStep}
 use Rattle.loss_rules.proofs.Laws.{fit-after}
-use Rattle.loss_burst.specs.MarkedBurst.{marksOver}
+use Rattle.loss_runs.specs.MarkedRuns.{marksOver}
 use Rattle.loss_demands.specs.Watched.{Watched, watched, acted, afterAll, actsOf}
 use Rattle.loss_demands.specs.Watched.Act.{Event}
 

@@ -12,7 +12,8 @@ use Rattle.bits.proofs.Decide.{clash}
 use Rattle.map.specs.Map.{partOf}
 use Rattle.words_state.specs.Packed.{stateIn, Packed}
 use Rattle.words_events.specs.Events.{sentOf, eight}
-use Rattle.words_burst.specs.Burst.{ran, Left, Bursts}
+use Rattle.words_runs.specs.Runs.{ran, Left}
+use Rattle.words_burst.specs.Burst.{Bursts}
 
 or-left : (a b : Bool) → (a || b) ≡ false → a ≡ false
 or-left true b h = h

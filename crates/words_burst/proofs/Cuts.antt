@@ -16,9 +16,9 @@ use Rattle.device_rules.specs.Refusals.{imageFits, eventOf, refusal, stepped}
 use Rattle.device_rules.specs.Answers.{answerKind, refusalNumber}
 use Rattle.device_rules.specs.declared.Answer.the-variants.{Refused}
 use Rattle.words_events.specs.Events.{Sent, wordAt, eventAt, sentOf, halved, wholeOf, one}
-use Rattle.words_burst.specs.Burst.{Ran, ended, onto, twoOf, ran}
+use Rattle.words_runs.specs.Runs.{Ran, ended, onto, twoOf, ran}
 use Rattle.words_burst.specs.Cuts.{andThen, ranAll, allOf}
-use Rattle.words_burst.proofs.Running.{onto-onto, onto-none}
+use Rattle.words_runs.proofs.Running.{onto-onto, onto-none}
 
 -- ---- a refusal has a number, and an answer has none
 abbrev Clear : Outcome → Type 0

@@ -6,9 +6,9 @@ use native.Mathlib.Omega.{arith}
 use lib.ListN.{getD}
 use Rattle.words_state.proofs.Standing.{named}
 use Rattle.words_device.proofs.Naming.{its-tables}
-use Rattle.words_burst.proofs.Running.{answered, Running, begin, turn, stop, finish}
-use Rattle.words_burst.proofs.run.Statement.{statement}
-use Rattle.words_burst.proofs.run.Tie as tie
+use Rattle.words_runs.proofs.Running.{answered, Running, begin, turn, stop, finish}
+use Rattle.words_runs.proofs.run.Statement.{statement}
+use Rattle.words_runs.proofs.run.Tie as tie
 
 abbrev Inv-loop : tie.InvT-loop
 Inv-loop words₀ rows next pins events asked answers₀ done₀ i₀ words answers done i = Running (getD words₀ 27 0) words₀ events asked answers₀ words answers i

@@ -19,7 +19,7 @@ use Rattle.device_rules.specs.declared.Answer.{Answer}
 use Rattle.device_rules.specs.declared.Answer.the-variants.{Nothing, Ack, Nak, Byte, Refused}
 use Rattle.words_state.specs.Packed.{stateIn, Packed, Leaves}
 use Rattle.words_events.specs.Events.{Sent, eventAt, sentOf, one}
-use Rattle.words_burst.specs.Burst.{Ran, ended, onto, twoOf, afterOne, ran, Left}
+use Rattle.words_runs.specs.Runs.{Ran, ended, onto, twoOf, afterOne, ran, Left}
 use Rattle.words_events.proofs.Doing.{sent-first, refused-same}
 
 -- an answer of one of the first four kinds is no refusal

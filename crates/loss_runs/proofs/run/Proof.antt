@@ -9,11 +9,11 @@ use Rattle.device_rules.specs.Answers.{answerKind}
 use Rattle.device_rules.specs.declared.Answer.{Answer}
 use Rattle.words_state.proofs.Standing.{named}
 use Rattle.words_device.proofs.Naming.{its-tables}
-use Rattle.words_burst.proofs.Running.{answered, Running, begin, turn, stop, finish}
+use Rattle.words_runs.proofs.Running.{answered, Running, begin, turn, stop, finish}
 use Rattle.loss_sets.specs.Sets.{marksIn}
-use Rattle.loss_burst.proofs.Marking as marking
-use Rattle.loss_burst.proofs.run.Statement.{statement}
-use Rattle.loss_burst.proofs.run.Tie as tie
+use Rattle.loss_runs.proofs.Marking as marking
+use Rattle.loss_runs.proofs.run.Statement.{statement}
+use Rattle.loss_runs.proofs.run.Tie as tie
 
 abbrev Inv-loop : tie.InvT-loop
 Inv-loop words₀ marks₀ rows next pins events asked answers₀ done₀ i₀ words marks answers done i = Running (getD words₀ 27 0) words₀ events asked answers₀ words answers i × marking.Marking (getD words₀ 27 0) words₀ (marksIn marks₀) events asked words (marksIn marks) i

@@ -17,7 +17,7 @@ use Rattle.words_events.proofs.Doing.{sent-first}
 use Rattle.loss_rules.specs.Marks.{Marks, isReset, noted, marksFit}
 use Rattle.loss_rules.proofs.Laws.{fit-after}
 use Rattle.loss_marks.proofs.Stepping.{status-small, by-outcome}
-use Rattle.loss_burst.specs.MarkedBurst.{markedBy, marksOver}
+use Rattle.loss_runs.specs.MarkedRuns.{markedBy, marksOver}
 
 -- ---- one event, on words
 module _ (c : ℕ) (w : List ℕ) (m : Marks) (k : Packed c w) (e : Sent) {w' : List ℕ} {a : Answer} (l : Leaves c w' a (one (partOf c) (stateIn (partOf c) w) e)) where

@@ -8,9 +8,9 @@ use Rattle.words_state.specs.Packed.{stateIn}
 use Rattle.words_events.specs.Events.{eventAt, wholeOf}
 use Rattle.loss_rules.specs.Marks.{isReset}
 use Rattle.loss_sets.specs.Sets.{marksIn}
-use Rattle.loss_burst.proofs.Marking.{refused-event, taken-event}
-use Rattle.loss_burst.proofs.take.Statement.{statement}
-use Rattle.loss_burst.proofs.take.Tie as tie
+use Rattle.loss_runs.proofs.Marking.{refused-event, taken-event}
+use Rattle.loss_runs.proofs.take.Statement.{statement}
+use Rattle.loss_runs.proofs.take.Tie as tie
 
 returns : tie.Need-returns
 returns c =
