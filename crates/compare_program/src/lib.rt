@@ -4,198 +4,11 @@ ghost use Prim.Native.Nat.{_+_, _≤_};
 ghost use lib.ListN.{length};
 ghost use Rattle.compare_pieces.specs.Meeting.{Holding};
 use compare_lines::AGREES;
-use compare_lines::DEPARTS;
 use compare_lines::ENDS_EARLY;
 use compare_lines::SAME;
-use compare_pieces::ENOUGH;
 use compare_pieces::LONGEST;
 use compare_pieces::Met;
 use libc::STDERR_FILENO;
-use libc::STDOUT_FILENO;
-
-// Answers are read in pieces of at least so many bytes of room.
-const PIECE: usize = 4096;
-
-// Of a longer line a person is shown so many bytes.
-const SHOWN: usize = 32;
-
-// How many bytes of the answers there are now, whether these are the last, and whether a read failed.
-struct Filled {
-    have: usize,
-    last: bool,
-    failed: bool,
-}
-
-// One read of answers into the memory from a place on.
-fn read_on(fd: i32, seen: &mut [u8], have: usize) -> Filled
-    requires { ⌜ have ≤ length (now seen) ⌝ }
-    ensures { λ f. ⌜ (have ≤ f .have) × (f .have ≤ length (now (seen .exit))) × (length (now (seen .exit)) ≡ length (now (seen .entry))) ⌝ }
-{
-    let got = libc::read(fd, &mut seen[have..]);
-    if got < 0 {
-        os::fail(b"compare: the answers");
-        return Filled {
-            have,
-            last: false,
-            failed: true,
-        };
-    }
-    let n = io::count(got, &seen[have..]);
-    Filled {
-        have: have + n,
-        last: n == 0,
-        failed: false,
-    }
-}
-
-// The answers from a place on come to the front, and more are read until there are enough to judge a line, or no more.
-fn fill(fd: i32, seen: &mut [u8], at: usize, have: usize) -> Filled
-    requires { ⌜ (at ≤ have) × (have ≤ length (now seen)) × (64 ≤ length (now seen)) ⌝ }
-    ensures { λ f. ⌜ (f .have ≤ length (now (seen .exit))) × (length (now (seen .exit)) ≡ length (now (seen .entry))) ⌝ }
-{
-    let mut rest = [0u8; ENOUGH];
-    let kept = text_pieces::keep(&mut rest, 0, &seen[at..have]);
-    let mut there = text::put(seen, 0, &rest[0..kept]);
-    let mut turns = ENOUGH;
-    while 0 < turns {
-        turns = turns - 1;
-        let more = read_on(fd, seen, there);
-        there = more.have;
-        if more.last || more.failed || ENOUGH <= there {
-            return more;
-        }
-    }
-    Filled {
-        have: there,
-        last: false,
-        failed: false,
-    }
-}
-
-// More of the answers are read while the line that begins at a place has no end and there is room for it.
-fn fill_line(fd: i32, seen: &mut [u8], at: usize, have: usize, last: bool) -> Filled
-    requires { ⌜ (at ≤ have) × (have ≤ length (now seen)) ⌝ }
-    ensures { λ f. ⌜ (at ≤ f .have) × (f .have ≤ length (now (seen .exit))) × (length (now (seen .exit)) ≡ length (now (seen .entry))) ⌝ }
-{
-    let mut there = have;
-    let mut ended = last || text_pieces::newline_at(&seen[at..have]) < have - at;
-    let mut turns = seen.len() - have;
-    while 0 < turns {
-        turns = turns - 1;
-        if ended || seen.len() - there < PIECE {
-            return Filled {
-                have: there,
-                last,
-                failed: false,
-            };
-        }
-        let more = read_on(fd, seen, there);
-        if more.last || more.failed {
-            return more;
-        }
-        let end = more.have;
-        ended = text_pieces::newline_at(&seen[there..end]) < end - there;
-        there = end;
-    }
-    Filled {
-        have: there,
-        last,
-        failed: false,
-    }
-}
-
-// The line that begins at a place, with a newline, on standard output; it may go on past all that was read.
-fn print_line(fd: i32, seen: &mut [u8], at: usize, have: usize, last: bool)
-    requires { ⌜ (at ≤ have) × (have ≤ length (now seen)) ⌝ }
-    ensures { λ r. ⌜ length (now (seen .exit)) ≡ length (now (seen .entry)) ⌝ }
-{
-    let line = text_pieces::newline_at(&seen[at..have]);
-    io::write_all(STDOUT_FILENO, &seen[at..at + line]);
-    let mut ended = last || line < have - at;
-    let mut turns = u64::MAX;
-    while 0 < turns {
-        turns = turns - 1;
-        if ended {
-            turns = 0;
-        } else {
-            let more = read_on(fd, seen, 0);
-            let n = more.have;
-            let part = text_pieces::newline_at(&seen[0..n]);
-            io::write_all(STDOUT_FILENO, &seen[0..part]);
-            ended = part < n || more.last || more.failed;
-        }
-    }
-    io::write_all(STDOUT_FILENO, b"\n");
-}
-
-// What a person is told of a line: its beginning.
-fn tell_line(label: &[u8], text: &[u8]) {
-    let len = text_pieces::newline_at(text);
-    io::write_all(STDERR_FILENO, label);
-    if SHOWN < len {
-        io::write_all(STDERR_FILENO, &text[0..SHOWN]);
-        io::write_all(STDERR_FILENO, b"...\n");
-        return;
-    }
-    io::write_all(STDERR_FILENO, &text[0..len]);
-    io::write_all(STDERR_FILENO, b"\n");
-}
-
-// A count that stays where it is when it can't grow.
-fn counted(count: u64, more: u64) -> u64 {
-    if u64::MAX - count < more {
-        return count;
-    }
-    count + more
-}
-
-fn tell_number(agreed: u64, what: &[u8]) {
-    io::write_all(STDERR_FILENO, b"compare: line ");
-    io::print_decimal(STDERR_FILENO, counted(agreed, 1));
-    io::write_all(STDERR_FILENO, what);
-}
-
-fn tell_agreed(agreed: u64) {
-    io::write_all(STDERR_FILENO, b"compare: ");
-    io::print_decimal(STDERR_FILENO, agreed);
-    if agreed == 1 {
-        io::write_all(STDERR_FILENO, b" line agrees\n");
-    } else {
-        io::write_all(STDERR_FILENO, b" lines agree\n");
-    }
-}
-
-// The verdict and what a person is told: how many lines agree, the event of the next line, the line that was expected, and the answers from that line on.
-fn conclude(verdict: u8, agreed: u64, event: &[u8], expected: &[u8], found: &[u8]) {
-    match verdict {
-        AGREES => {
-            tell_agreed(agreed);
-            io::write_all(STDOUT_FILENO, b"agrees\n");
-        }
-        DEPARTS => {
-            tell_number(agreed, b" departs\n");
-            tell_line(b"event: ", event);
-            tell_line(b"expected: ", expected);
-            tell_line(b"found: ", found);
-            io::write_all(STDOUT_FILENO, b"departs\n");
-        }
-        ENDS_EARLY => {
-            tell_number(agreed, b" is missing\n");
-            tell_line(b"event: ", event);
-            tell_line(b"expected: ", expected);
-            io::write_all(STDOUT_FILENO, b"ends early\n");
-        }
-        _ => {
-            tell_number(agreed, b" is left over\n");
-            io::write_all(
-                STDERR_FILENO,
-                b"expected: nothing, the events end before it\n",
-            );
-            tell_line(b"found: ", found);
-            io::write_all(STDOUT_FILENO, b"left over\n");
-        }
-    }
-}
 
 // Where a comparison stands: how many bytes of an event are held, from where to where answers are left in the memory, whether these are the last, how many lines agree, and whether all is said.
 struct Stand {
@@ -221,17 +34,17 @@ fn finish(s: Stand, verdict: u8, event: &[u8], expected: &[u8], answers: i32, se
     ensures { λ r. ⌜ length (now (seen .exit)) ≡ length (now (seen .entry)) ⌝ }
 {
     if verdict == AGREES || verdict == ENDS_EARLY {
-        conclude(verdict, s.agreed, event, expected, b"");
+        compare_verdicts::conclude(verdict, s.agreed, event, expected, b"");
         return;
     }
     let at = s.at;
-    let filled = fill_line(answers, seen, at, s.have, s.last);
+    let filled = compare_answers::fill_line(answers, seen, at, s.have, s.last);
     if filled.failed {
         return;
     }
     let end = filled.have;
-    conclude(verdict, s.agreed, event, expected, &seen[at..end]);
-    print_line(answers, seen, at, end, filled.last);
+    compare_verdicts::conclude(verdict, s.agreed, event, expected, &seen[at..end]);
+    compare_answers::print_line(answers, seen, at, end, filled.last);
 }
 
 // No more than there is room for.
@@ -275,7 +88,7 @@ fn ready(s: Stand, answers: i32, seen: &mut [u8]) -> Stand
     if !compare_pieces::wants(s.have - s.at, s.last) {
         return s;
     }
-    let more = fill(answers, seen, s.at, s.have);
+    let more = compare_answers::fill(answers, seen, s.at, s.have);
     Stand {
         len: s.len,
         at: 0,
@@ -296,7 +109,7 @@ fn moved(s: Stand, met: Met) -> Stand
         at: s.at + met.answers,
         have: s.have,
         last: s.last,
-        agreed: counted(s.agreed, met.lines as u64),
+        agreed: compare_verdicts::counted(s.agreed, met.lines as u64),
         done: false,
     }
 }
@@ -496,7 +309,7 @@ fn compare_files(events: i32, answers: i32) {
     let mut piece = [0u8; 16384];
     let mut seen = io::large_buffer();
     let read = read_events(events, &mut piece);
-    let filled = fill(answers, &mut seen, 0, 0);
+    let filled = compare_answers::fill(answers, &mut seen, 0, 0);
     if read.failed || filled.failed {
         return;
     }
