@@ -5,26 +5,17 @@ use mathlib.Core.List.{List}
 use Prim.Native.Nat.{ℕ, zero, suc, _+_, _*_, _<_, _≤_}
 use native.Mathlib.Omega.{arith}
 use borrow.Author.Tests.{lt-ltb, le-ltb, ltb-true, ltb-false}
-use lib.Dec.{eqb, ltb}
+use lib.Dec.{ltb}
 use lib.ListN.{length, getD}
 use Rattle.bits.proofs.Decide.{clash}
-use Rattle.bits.proofs.Laws.{tabulate-ext}
-use Rattle.pins.specs.Pin.{isLow, isHigh}
-use Rattle.pins.specs.OnePin.{driveOf}
 use Rattle.map.specs.Map.{Part, partOf, Stepping}
-use Rattle.registers.specs.Registers.{onePin, intAsserted, drivenLow, drivenHigh}
-use Rattle.registers.proofs.Kept.{line-right}
 use Rattle.device_rules.specs.Device.{Outcome, out}
 use Rattle.device_rules.specs.declared.Answer.{Answer}
 use Rattle.device_rules.specs.declared.Answer.the-variants.{Nothing}
 use Rattle.device_rules.specs.Refusals.{stepped}
 use Rattle.device_rules.specs.PowerOn.{powerOn}
-use Rattle.words.specs.Words.{coreIn, interruptIn}
-use Rattle.words.proofs.Sound.{sound}
-use Rattle.words.proofs.Showing.{one-pin}
 use Rattle.words_rows.specs.Rows.{Rowed}
 use Rattle.words_state.specs.Packed.{stateIn, Packed}
-use Rattle.words_device.specs.Named.{Named}
 use Rattle.words_state.proofs.Standing.{named}
 use Rattle.text.specs.Text.{Wrote}
 use Rattle.text.proofs.Laws.{wrote-as}
@@ -32,42 +23,10 @@ use Rattle.trace_lines.specs.declared.Line.{Line}
 use Rattle.trace_lines.specs.declared.Line.the-variants.{Event, Unreadable, Device as MadeLine}
 use Rattle.trace_lines.specs.Lines.{lineOf}
 use Rattle.trace_lines.proofs.Laws.{line-tiny}
-use Rattle.text_answers.specs.Answers.{Keeps, answerLine, shownLine, refusedLine}
-use Rattle.text_answers.proofs.Laws.{told-line, refused-short, told-short}
+use Rattle.text_answers.specs.Answers.{shownLine, refusedLine}
+use Rattle.text_answers.proofs.Laws.{refused-short, told-short}
 use Rattle.trace_session.specs.Tracing.Session.{NoDevice, With}
-use Rattle.trace_session.specs.Tracing.{Session, Traced, sessionOf, partIn, toldBy, unreadable, traced, answerTo, Kept, Says, Tables, Told, KeepsOf, Fresh, Beside}
-
--- ---- the columns
--- they depend on the words that are told
-module _ (c : ℕ) (told v w : List ℕ) (tv : Told v told) (tw : Told w told) where
-  drive-same : (i : ℕ) → i < partOf c .width → driveOf (onePin (partOf c) (coreIn (partOf c) v) i) ≡ driveOf (onePin (partOf c) (coreIn (partOf c) w) i)
-  drive-same i l =
-      ap driveOf (one-pin (partOf c) (sound c) v i l) ∙ rw (← tv .1, ← tv .2, ← tv .3, ← tv .4, tw .1, tw .2, tw .3, tw .4) refl
-      ∙ sym (ap driveOf (one-pin (partOf c) (sound c) w i l))
-
-  low-same : drivenLow (partOf c) (coreIn (partOf c) v) ≡ drivenLow (partOf c) (coreIn (partOf c) w)
-  unfolding drivenLow
-  low-same = tabulate-ext (partOf c .width) (λ i l. ap isLow (drive-same i l))
-
-  high-same : drivenHigh (partOf c) (coreIn (partOf c) v) ≡ drivenHigh (partOf c) (coreIn (partOf c) w)
-  unfolding drivenHigh
-  high-same = tabulate-ext (partOf c .width) (λ i l. ap isHigh (drive-same i l))
-
-  int-same : Packed c v → Packed c w → intAsserted (partOf c) (coreIn (partOf c) v) ≡ intAsserted (partOf c) (coreIn (partOf c) w)
-  int-same kv kw =
-      sym (line-right (partOf c) (coreIn (partOf c) v) (interruptIn v) (kv .right)) ∙ ap (λ (n : ℕ). eqb n 0) (sym (tv .0) ∙ tw .0)
-      ∙ line-right (partOf c) (coreIn (partOf c) w) (interruptIn w) (kw .right)
-
-  keeps-same : Packed c v → Packed c w → (kept : List ℕ) → KeepsOf (partOf c) w kept → KeepsOf (partOf c) v kept
-  keeps-same kv kw kept k = rw (int-same kv kw, low-same, high-same) k
-
-pub keeps-as : (p : Part) (words kept : List ℕ) {int : Bool} {low high : ℕ} → Keeps p kept int low high
-    → int ≡ intAsserted p (coreIn p words) → low ≡ drivenLow p (coreIn p words) → high ≡ drivenHigh p (coreIn p words) → KeepsOf p words kept
-keeps-as p words kept k e f g = rw (← e, ← f, ← g) k
-
--- written anew, the text is of every device that has these words
-pub fresh-anew : (words told kept : List ℕ) → Named words → Told words told → length kept ≡ 22 → KeepsOf (partOf (getD words 27 0)) words kept → Fresh words told kept
-fresh-anew words told kept k t long keeps = record { long = long; fresh = λ w kw tw. keeps-same (getD words 27 0) told w words tw t kw k kept keeps }
+use Rattle.trace_session.specs.Tracing.{Session, Traced, sessionOf, partIn, toldBy, unreadable, traced, answerTo, Kept, Says, Tables, Beside}
 
 -- before a device any text will do, and any tables
 pub beside-start : (words rows next told kept : List ℕ) → getD words 27 0 ≡ 2 → length kept ≡ 22 → Beside words rows next told kept
@@ -78,21 +37,9 @@ beside-start words rows next told kept e long =
 pub tables-anew : (c : ℕ) (words rows next : List ℕ) → Packed c words → Rowed (partOf c) rows → Stepping (partOf c) next → Tables words rows next
 tables-anew c words rows next k r n = record { rowed = λ few. rw (k .part-is) r; stepping = λ few. rw (k .part-is) n }
 
--- both stay where the part does
-module _ (words words′ : List ℕ) (e : getD words 27 0 ≡ getD words′ 27 0) where
-  pub fresh-on : (told kept : List ℕ) → Fresh words told kept → Fresh words′ told kept
-  fresh-on told kept b = record { long = b .long; fresh = rw e at (b .fresh) }
-
-  pub tables-on : (rows next : List ℕ) → Tables words rows next → Tables words′ rows next
-  tables-on rows next t = record { rowed = rw e at (t .rowed); stepping = rw e at (t .stepping) }
-
--- a line that is put with the text that is kept is the device's
-pub kept-line : (c : ℕ) {words told kept : List ℕ} (a : Answer) {out₀ : List ℕ} {at end : ℕ} {left : List ℕ} → Packed c words → Fresh words told kept → Told words told
-    → ((int : Bool) (low high : ℕ) → Keeps (partOf (getD words 27 0)) kept int low high → Wrote out₀ at (answerLine (partOf (getD words 27 0)) a int low high) end left)
-    → Wrote out₀ at (shownLine (partOf c) (out a (stateIn (partOf c) words))) end left
-kept-line c {words} a k b t put =
-    let p : Part = partOf (getD words 27 0) in
-    wrote-as (told-line p a (stateIn p words) _ _ _ refl refl refl ∙ ap (λ (c : ℕ). shownLine (partOf c) (out a (stateIn (partOf c) words))) (k .part-is)) (put _ _ _ (b .fresh words (named c words k) t))
+-- they stay where the part does
+pub tables-on : (words words′ : List ℕ) → getD words 27 0 ≡ getD words′ 27 0 → (rows next : List ℕ) → Tables words rows next → Tables words′ rows next
+tables-on words words′ e rows next t = record { rowed = rw e at (t .rowed); stepping = rw e at (t .stepping) }
 
 -- ---- the cases
 -- what is said may be said in another way

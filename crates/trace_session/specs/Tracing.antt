@@ -4,23 +4,22 @@ use mathlib.Core.Bool.{true, false, cond}
 use mathlib.Core.List.{List}
 use Prim.Native.Nat.{ℕ, _<_}
 use lib.Dec.{ltb}
-use lib.ListN.{length, getD}
+use lib.ListN.{getD}
 use Rattle.map.specs.Map.{Part, part34, partOf, Stepping}
-use Rattle.registers.specs.Registers.{intAsserted, drivenLow, drivenHigh}
 use Rattle.device_rules.specs.Device.{State, Outcome, out}
 use Rattle.device_rules.specs.declared.Answer.the-variants.{Nothing}
 use Rattle.device_rules.specs.Refusals.{stepped}
 use Rattle.device_rules.specs.PowerOn.{powerOn}
-use Rattle.words.specs.Words.{coreIn, lineWord, configurationWord, outputWord, portKindWord, pinKindWord}
 use Rattle.words_rows.specs.Rows.{Rowed}
-use Rattle.words_state.specs.Packed.{partWord, stateIn, Packed}
+use Rattle.words_state.specs.Packed.{partWord, stateIn}
 use Rattle.words_device.specs.Named.{Named}
 use Rattle.text.specs.Text.{Wrote}
 use Rattle.text_logs.specs.Lines.{Reply}
 use Rattle.trace_lines.specs.declared.Line.{Line}
 use Rattle.trace_lines.specs.declared.Line.the-variants.{Device, Event, Unreadable}
 use Rattle.trace_lines.specs.Lines.{lineOf}
-use Rattle.text_answers.specs.Answers.{Keeps, shownLine, refusedLine}
+use Rattle.text_answers.specs.Answers.{shownLine, refusedLine}
+use Rattle.trace_columns.specs.Columns.{Fresh}
 
 -- no device yet, or one of this part in this state
 pub data Session : Type 0 where
@@ -65,21 +64,6 @@ Kept w = ltb (getD w partWord 0) 2 ≡ true → Named w
 pub record Tables (words rows next : List ℕ) : Type 0 where
   pub rowed : getD words partWord 0 < 2 → Rowed (partOf (getD words partWord 0)) rows
   pub stepping : getD words partWord 0 < 2 → Stepping (partOf (getD words partWord 0)) next
-
--- the words that the columns depend on were these when they were told: line, configuration, output, output port kind and pin output kind
-abbrev pub Told : (words told : List ℕ) → Type 0
-Told w told =
-    (getD told 0 0 ≡ getD w lineWord 0) × (getD told 1 0 ≡ getD w configurationWord 0) × (getD told 2 0 ≡ getD w outputWord 0) × (getD told 3 0 ≡ getD w portKindWord 0)
-    × (getD told 4 0 ≡ getD w pinKindWord 0)
-
--- the text that is kept holds the columns of the device in the words
-abbrev pub KeepsOf : Part → (words kept : List ℕ) → Type 0
-KeepsOf p w kept = Keeps p kept (intAsserted p (coreIn p w)) (drivenLow p (coreIn p w)) (drivenHigh p (coreIn p w))
-
--- the text that is lent beside the words: it has the columns of every device of their part that has the words that were told
-pub record Fresh (words told kept : List ℕ) : Type 0 where
-  pub long : length kept ≡ 22
-  pub fresh : (w : List ℕ) → Packed (getD words partWord 0) w → Told w told → KeepsOf (partOf (getD words partWord 0)) w kept
 
 abbrev pub Beside : (words rows next told kept : List ℕ) → Type 0
 Beside words rows next told kept = Tables words rows next × Fresh words told kept

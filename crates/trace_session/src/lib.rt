@@ -1,25 +1,17 @@
-// The trace program's work: one line in, one line out, on words that the caller lends, beside them the tables of the device's part and the text of the columns, which few events change.
-ghost use mathlib.Core.Path.{_≡_};
-ghost use mathlib.Core.Bool.{true};
+// The trace program's work: one line in, one line out, on words that the caller lends, beside them the tables of the device's part and the text of the columns.
 ghost use Prim.Native.Nat.{_+_, _^_, _<_, _≤_};
 ghost use lib.ListN.{length};
 ghost use Rattle.map.specs.Map.{partOf};
 ghost use Rattle.device_rules.specs.Device.{out as outcome};
 ghost use Rattle.device_rules.specs.declared.Answer.the-variants.{Nothing};
 ghost use Rattle.device_rules.specs.PowerOn.{powerOn};
-ghost use Rattle.words_device.specs.Named.{Named};
 ghost use Rattle.text.specs.Text.{Wrote};
 ghost use Rattle.text_answers.specs.Answers.{refusedLine};
-ghost use Rattle.trace_session.specs.Tracing.{sessionOf, traced, answerTo, toldBy, Kept, Says, Told, Fresh, Beside};
+ghost use Rattle.trace_session.specs.Tracing.{sessionOf, traced, answerTo, toldBy, Kept, Says, Beside};
 use device_rules::Answer;
 use device_rules::UNREADABLE;
 use trace_lines::Line;
-use words::CONFIGURATION;
-use words::LINE;
-use words::OUTPUT;
 use words::PART;
-use words::PIN_KIND;
-use words::PORT_KIND;
 
 // The Device ID of a device that a line makes.
 const NO_ID: u64 = 0;
@@ -33,54 +25,6 @@ fn refuse(out: &mut [u8], at: usize) -> usize
     ensures { λ end. ⌜ Wrote (now (out .entry)) at (refusedLine 7) end (now (out .exit)) ⌝ }
 {
     text_answers::put_refused(out, at, UNREADABLE)
-}
-
-// Whether the words that the columns depend on are what they were when the text was written.
-fn is_told(words: &[u64; 28], told: &[u64; 5]) -> bool
-    ensures { λ r. ⌜ (r ≡ true → Told (now (words .entry)) (now (told .entry))) ⌝ }
-{
-    if told[0] != words[LINE] {
-        return false;
-    }
-    if told[1] != words[CONFIGURATION] {
-        return false;
-    }
-    if told[2] != words[OUTPUT] {
-        return false;
-    }
-    if told[3] != words[PORT_KIND] {
-        return false;
-    }
-    told[4] == words[PIN_KIND]
-}
-
-// The text of the columns, written anew.
-fn refresh(words: &[u64; 28], told: &mut [u64; 5], kept: &mut [u8; 22])
-    requires { ⌜ Named (now words) ⌝ }
-    ensures { λ r. ⌜ Fresh (now (words .entry)) (now (told .exit)) (now (kept .exit)) × Told (now (words .entry)) (now (told .exit)) ⌝ }
-{
-    *told = [
-        words[LINE],
-        words[CONFIGURATION],
-        words[OUTPUT],
-        words[PORT_KIND],
-        words[PIN_KIND],
-    ];
-    let int = words_views::int(words);
-    let low = words_views::low(words, map::pins_of(words[PART]));
-    let high = words_views::high(words);
-    text_answers::keep(kept, words[PART], int, low, high);
-}
-
-// The text of the columns, written anew if they changed.
-pub fn renew(words: &[u64; 28], told: &mut [u64; 5], kept: &mut [u8; 22])
-    requires { ⌜ Named (now words) × Fresh (now words) (now told) (now kept) ⌝ }
-    ensures { λ r. ⌜ Fresh (now (words .entry)) (now (told .exit)) (now (kept .exit)) × Told (now (words .entry)) (now (told .exit)) ⌝ }
-{
-    if is_told(words, &*told) {
-        return;
-    }
-    refresh(words, told, kept);
 }
 
 // A device anew, and the tables of its part.
@@ -103,7 +47,7 @@ pub fn make(
     words_device::power_on(words, part, choice, levels, NO_ID);
     words_tables::put_rows(rows, part);
     map::put_next(next, part);
-    refresh(&*words, told, kept);
+    trace_columns::refresh(&*words, told, kept);
     text_answers::put_line(out, at, words[PART], Answer::Nothing, &*kept)
 }
 
@@ -133,7 +77,7 @@ pub fn event(
             kind,
             arg,
         ));
-        renew(&*words, told, kept);
+        trace_columns::renew(&*words, told, kept);
         return text_answers::put_line(out, at, words[PART], answer, &*kept);
     }
     refuse(out, at)

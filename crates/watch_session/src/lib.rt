@@ -11,7 +11,8 @@ ghost use Rattle.words_device.specs.Named.{Named};
 ghost use Rattle.text.specs.Text.{hexText, Wrote};
 ghost use Rattle.text_answers.specs.Answers.{digitsOf, newline};
 ghost use Rattle.trace_lines.specs.Lines.{Taken};
-ghost use Rattle.trace_session.specs.Tracing.{Fresh, Beside};
+ghost use Rattle.trace_columns.specs.Columns.{Fresh};
+ghost use Rattle.trace_session.specs.Tracing.{Beside};
 ghost use Rattle.loss_rules.specs.Marks.{newMarks};
 ghost use Rattle.watch_session.specs.Watch.{watchOf, refusalLine, markedLine, toldBy, watched, answerTo, Kept, Says};
 use device_rules::Answer;
@@ -140,7 +141,7 @@ fn signed(
     ensures { λ end. ⌜ Wrote (now (out .entry)) at (markedLine (partOf (getD (now (words .entry)) 27 0)) (outcome Nothing (stateIn (partOf (getD (now (words .entry)) 27 0)) (now (words .entry)))) set) end (now (out .exit))
         × Fresh (now (words .entry)) (now (told .exit)) (now (kept .exit)) ⌝ }
 {
-    trace_session::renew(words, told, kept);
+    trace_columns::renew(words, told, kept);
     let end = text_answers::put_line(out, at, words[PART], Answer::Nothing, &*kept);
     put_marks(out, end, words[PART], set)
 }

@@ -6,7 +6,8 @@ use Prim.Native.Nat.{ℕ}
 use lib.ListN.{getD}
 use Rattle.words_device.proofs.Answering.{answered}
 use Rattle.words_state.proofs.Standing.{named}
-use Rattle.trace_session.proofs.Laws.{says-as, told-said, refused-said, event-told, event-refused, fresh-on, tables-on, kept-line}
+use Rattle.trace_columns.proofs.Laws.{fresh-on, kept-line}
+use Rattle.trace_session.proofs.Laws.{says-as, told-said, refused-said, event-told, event-refused, tables-on}
 use Rattle.trace_session.proofs.event.Statement.{statement}
 use Rattle.trace_session.proofs.event.Tie as tie
 

@@ -4,7 +4,8 @@ use mathlib.Core.Path.{ap}
 use Rattle.device_rules.specs.Device.{State, out}
 use Rattle.device_rules.specs.declared.Answer.the-variants.{Nothing}
 use Rattle.words_state.proofs.Standing.{named}
-use Rattle.trace_session.proofs.Laws.{told-said, kept-line, tables-anew}
+use Rattle.trace_columns.proofs.Laws.{kept-line}
+use Rattle.trace_session.proofs.Laws.{told-said, tables-anew}
 use Rattle.trace_session.proofs.make.Statement.{statement}
 use Rattle.trace_session.proofs.make.Tie as tie
 

@@ -1,13 +1,13 @@
--- `trace_session::refresh`: the columns are those of the device in the words, and of every device that has the words that are told (`fresh-anew`). Assumes nothing.
+-- `trace_columns::refresh`: the columns are those of the device in the words, and of every device that has the words that are told (`fresh-anew`). Assumes nothing.
 use borrow.Author.Needs.{needs}
 use mathlib.Core.Path.{refl}
 use Prim.Native.Nat.{ℕ}
 use lib.ListN.{getD}
 use Rattle.map.specs.Map.{partOf}
 use Rattle.words_state.specs.Packed.{partWord}
-use Rattle.trace_session.proofs.Laws.{keeps-as, fresh-anew}
-use Rattle.trace_session.proofs.refresh.Statement.{statement}
-use Rattle.trace_session.proofs.refresh.Tie as tie
+use Rattle.trace_columns.proofs.Laws.{keeps-as, fresh-anew}
+use Rattle.trace_columns.proofs.refresh.Statement.{statement}
+use Rattle.trace_columns.proofs.refresh.Tie as tie
 
 returns : tie.Need-returns
 returns c =

@@ -1,11 +1,11 @@
--- `trace_session::is_told`: each test says that one of the words is the same. Assumes nothing.
+-- `trace_columns::is_told`: each test says that one of the words is the same. Assumes nothing.
 use borrow.Author.Needs.{needs}
 use borrow.Author.Tests.{eqb-true}
 use mathlib.Core.Path.{refl}
 use mathlib.Core.Bool.{false}
 use Rattle.bits.proofs.Decide.{clash}
-use Rattle.trace_session.proofs.is_told.Statement.{statement}
-use Rattle.trace_session.proofs.is_told.Tie as tie
+use Rattle.trace_columns.proofs.is_told.Statement.{statement}
+use Rattle.trace_columns.proofs.is_told.Tie as tie
 
 returns : tie.Need-returns
 returns c = λ h. clash false h refl
