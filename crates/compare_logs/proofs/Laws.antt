@@ -9,7 +9,8 @@ use lib.Seq.{drop-drop, drop-length}
 use Rattle.text_pieces.specs.Pieces.{newlineAt}
 use Rattle.text.proofs.Laws.{rest as tail}
 use Rattle.trace_logs.specs.Logs.{header}
-use Rattle.trace_logs.specs.Pieces.{Reading, opened}
+use Rattle.trace_joins.specs.Readings.{Reading}
+use Rattle.trace_logs.specs.Pieces.{opened}
 use Rattle.compare_lines.specs.Comparing.{Found, firstLine, compared, partFrom}
 use Rattle.compare_lines.specs.Judging.{same, Judges}
 use Rattle.compare_pieces.specs.Meeting.{goesOn, Unless, Meets, Settles}

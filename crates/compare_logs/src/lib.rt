@@ -65,7 +65,7 @@ fn find_on(events: &[u8], rest: &[u8], line: &mut [u8]) -> Place
             from: at,
         };
     }
-    let done = compare_pieces::finish(
+    let done = compare_ends::finish(
         &mut words,
         &mut rows,
         &mut next,

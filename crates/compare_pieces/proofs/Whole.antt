@@ -6,7 +6,8 @@ use native.Mathlib.Omega.{arith}
 use lib.ListN.{length, take, drop}
 use Rattle.text.specs.Text.{Wrote}
 use Rattle.trace_logs.specs.Logs.{header}
-use Rattle.trace_logs.specs.Pieces.{Reading, opened, given, toEnd}
+use Rattle.trace_joins.specs.Readings.{Reading}
+use Rattle.trace_logs.specs.Pieces.{opened, given, toEnd}
 use Rattle.trace_logs.proofs.Whole.{one-piece}
 use Rattle.compare_lines.specs.Comparing.{Found, foundIn, compared}
 use Rattle.compare_lines.specs.Judging.{same, Judges}

@@ -5,7 +5,8 @@ use mathlib.Core.List.{List, [], _++_}
 use Prim.Native.Nat.{ℕ, _+_, _<_, _≤_}
 use lib.ListN.{length, drop}
 use Rattle.trace_session.specs.Tracing.{Kept, Beside}
-use Rattle.trace_logs.specs.Pieces.{Reading, given, toEnd}
+use Rattle.trace_joins.specs.Readings.{Reading}
+use Rattle.trace_logs.specs.Pieces.{given, toEnd}
 use Rattle.compare_lines.specs.Comparing.{Found, foundIn}
 use Rattle.compare_lines.specs.Judging.{same}
 

@@ -202,7 +202,7 @@ fn end_events(
     let at = s.at;
     let have = s.have;
     let len = s.len;
-    let met = compare_pieces::finish(
+    let met = compare_ends::finish(
         words,
         rows,
         next,

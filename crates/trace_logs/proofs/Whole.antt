@@ -6,9 +6,9 @@ use Rattle.text_logs.specs.Pieces.{joined}
 use Rattle.text_logs.proofs.Whole as pieces
 use Rattle.trace_session.specs.Tracing.{answerTo}
 use Rattle.trace_session.specs.Tracing.Session.{NoDevice}
+use Rattle.trace_joins.proofs.Laws.{answer-take}
 use Rattle.trace_logs.specs.Logs.{header, answersOf}
 use Rattle.trace_logs.specs.Pieces.{opened, given, toEnd, written}
-use Rattle.trace_logs.proofs.Laws.{answer-take}
 
 -- a log in one piece
 pub one-piece : (log : List ℕ) → header ++ toEnd (given opened log) ≡ answersOf log

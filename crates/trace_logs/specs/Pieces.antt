@@ -4,31 +4,21 @@ use mathlib.Core.Bool.{false}
 use mathlib.Core.List.{List, [], _++_}
 use Prim.Native.Nat.{ℕ}
 use lib.Dec.{ltb}
-use lib.ListN.{getD, take}
+use lib.ListN.{getD}
 use Rattle.words_state.specs.Packed.{partWord}
 use Rattle.text_logs.specs.Pieces as pieces
-use Rattle.trace_session.specs.Tracing.{Session, Traced, answerTo, sessionOf, Kept}
+use Rattle.trace_session.specs.Tracing.{Session, answerTo, sessionOf, Kept}
 use Rattle.trace_session.specs.Tracing.Session.{NoDevice}
+use Rattle.trace_joins.specs.Readings.{Reading}
 use Rattle.trace_logs.specs.Logs.{header}
-
--- what there is, and the line that has begun
-abbrev pub Reading : Type 0
-Reading = pieces.Reading Session
 
 -- before the log: no device yet, and no line
 abbrev pub opened : Reading
 opened = pieces.reading NoDevice []
 
-abbrev pub readingOf : (words held : List ℕ) → (len : ℕ) → Reading
-readingOf words held len = pieces.reading (sessionOf words) (take len held)
-
 -- answers, and where the reading stands after them
 abbrev pub Given : Type 0
 Given = pieces.Given Session
-
--- the answer of the line that has begun
-abbrev pub answerOf : Reading → Traced
-answerOf r = pieces.answerOf answerTo r
 
 -- it is answered, and the next begins
 abbrev pub ended : Reading → Given

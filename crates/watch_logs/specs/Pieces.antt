@@ -1,31 +1,19 @@
 -- A log in pieces: what a piece gives, and what is carried to the next, as the watch program answers a line.
 use mathlib.Core.List.{List, [], _++_}
 use Prim.Native.Nat.{ℕ}
-use lib.ListN.{take}
-use Rattle.text_logs.specs.Lines.{Reply}
 use Rattle.text_logs.specs.Pieces as pieces
 use Rattle.watch_session.specs.Watch.{Session, answerTo, watchOf, Holds}
 use Rattle.watch_session.specs.Watch.Session.{NoDevice}
+use Rattle.watch_joins.specs.Readings.{Reading}
 use Rattle.watch_logs.specs.Logs.{header}
-
--- what there is, and the line that has begun
-abbrev pub Reading : Type 0
-Reading = pieces.Reading Session
 
 -- before the log: no device yet, and no line
 abbrev pub opened : Reading
 opened = pieces.reading NoDevice []
 
-abbrev pub readingOf : (words marks held : List ℕ) → (len : ℕ) → Reading
-readingOf words marks held len = pieces.reading (watchOf words marks) (take len held)
-
 -- answers, and where the reading stands after them
 abbrev pub Given : Type 0
 Given = pieces.Given Session
-
--- the answer of the line that has begun
-abbrev pub answerOf : Reading → Reply Session
-answerOf r = pieces.answerOf answerTo r
 
 -- what a piece gives
 abbrev pub given : Reading → (piece : List ℕ) → Given

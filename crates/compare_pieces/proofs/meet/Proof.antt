@@ -5,7 +5,7 @@ use mathlib.Core.Path.{_≡_, refl, _∙_}
 use Prim.Native.Nat.{_-_, _≤_}
 use lib.ListN.{length}
 use Rattle.bits.proofs.Decide.{clash}
-use Rattle.trace_logs.specs.Pieces.{readingOf}
+use Rattle.trace_joins.specs.Readings.{readingOf}
 use Rattle.compare_lines.specs.Judging.{same}
 use Rattle.compare_pieces.specs.Meeting.{Unless, Meets, Holding}
 use Rattle.compare_pieces.proofs.Laws.{meets-start, meets-then, meets-on, rest-some}

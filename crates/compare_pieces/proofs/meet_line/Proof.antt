@@ -3,7 +3,7 @@ use borrow.Author.Needs.{needs}
 use native.Mathlib.Omega.{arith}
 use mathlib.Core.Path.{sym}
 use Rattle.trace_session.specs.Tracing.{sessionOf}
-use Rattle.trace_logs.specs.Pieces.{readingOf}
+use Rattle.trace_joins.specs.Readings.{readingOf}
 use Rattle.text_logs.proofs.Feeding.{begun-small, taken-some}
 use Rattle.compare_pieces.proofs.Laws.{first-there, some-there, meets-nothing, meets-line, meets-verdict}
 use Rattle.compare_pieces.proofs.meet_line.Statement.{statement}

@@ -1,4 +1,4 @@
--- `compare_program::end_events`: what is held is what `compare_pieces::finish` asks for. Assumes nothing.
+-- `compare_program::end_events`: what is held is what `compare_ends::finish` asks for. Assumes nothing.
 use mathlib.Core.Path.{_∙_}
 use Prim.Native.Nat.{ℕ}
 use native.Mathlib.Omega.{arith}

@@ -1,4 +1,4 @@
--- `trace_logs::end_line`: a line with nothing held is read where it lies, any other is joined. Assumes nothing.
+-- `trace_joins::end_line`: a line with nothing held is read where it lies, any other is joined. Assumes nothing.
 use borrow.Author.Needs.{needs}
 use borrow.Author.Tests.{eq-eqb, ne-eqb}
 use mathlib.Core.Path.{refl}
@@ -6,9 +6,9 @@ use Rattle.text_logs.specs.Pieces.{heldAtEnd}
 use Rattle.trace_session.proofs.Laws.{says-as}
 use Rattle.text_logs.proofs.Feeding.{line-whole}
 use Rattle.trace_session.specs.Tracing.{sessionOf, answerTo}
-use Rattle.trace_logs.proofs.Laws.{answer-take}
-use Rattle.trace_logs.proofs.end_line.Statement.{statement}
-use Rattle.trace_logs.proofs.end_line.Tie as tie
+use Rattle.trace_joins.proofs.Laws.{answer-take}
+use Rattle.trace_joins.proofs.end_line.Statement.{statement}
+use Rattle.trace_joins.proofs.end_line.Tie as tie
 
 returns : tie.Need-returns
 unfolding heldAtEnd

@@ -1,4 +1,4 @@
--- `watch_logs::joined_line`: the bytes that are held say as much as the joined line (`line-joined`). Assumes nothing.
+-- `watch_joins::joined_line`: the bytes that are held say as much as the joined line (`line-joined`). Assumes nothing.
 use borrow.Author.Needs.{needs}
 use Rattle.watch_session.proofs.Laws.{says-as}
 use mathlib.Core.Path.{ap}
@@ -6,8 +6,8 @@ use Rattle.text_logs.specs.Pieces.{reading}
 use Rattle.text_logs.proofs.Feeding.{line-joined}
 use Rattle.watch_session.specs.Watch.{watchOf, answerTo}
 use native.Mathlib.Omega.{arith}
-use Rattle.watch_logs.proofs.joined_line.Statement.{statement}
-use Rattle.watch_logs.proofs.joined_line.Tie as tie
+use Rattle.watch_joins.proofs.joined_line.Statement.{statement}
+use Rattle.watch_joins.proofs.joined_line.Tie as tie
 
 part-answer-line-end : tie.Need-part-answer-line-end
 part-answer-line-end c =

@@ -1,10 +1,11 @@
--- `compare_pieces::finish`: a line that has begun expects its answer, and then nothing is expected. Assumes nothing.
+-- `compare_ends::finish`: a line that has begun expects its answer, and then nothing is expected. Assumes nothing.
 use borrow.Author.Needs.{needs}
 use native.Mathlib.Omega.{arith}
-use Rattle.trace_logs.specs.Pieces.{readingOf}
-use Rattle.compare_pieces.proofs.Laws.{last-there, some-there, settles-none, settles-line, settles-verdict}
-use Rattle.compare_pieces.proofs.finish.Statement.{statement}
-use Rattle.compare_pieces.proofs.finish.Tie as tie
+use Rattle.trace_joins.specs.Readings.{readingOf}
+use Rattle.compare_pieces.proofs.Laws.{some-there}
+use Rattle.compare_ends.proofs.Laws.{last-there, settles-none, settles-line, settles-verdict}
+use Rattle.compare_ends.proofs.finish.Statement.{statement}
+use Rattle.compare_ends.proofs.finish.Tie as tie
 
 finish-requires : tie.Need-finish-requires
 finish-requires c κs =

@@ -1,4 +1,4 @@
--- `watch_logs::end_line`: a line with nothing held is read where it lies, any other is joined. Assumes nothing.
+-- `watch_joins::end_line`: a line with nothing held is read where it lies, any other is joined. Assumes nothing.
 use borrow.Author.Needs.{needs}
 use borrow.Author.Tests.{eq-eqb, ne-eqb}
 use mathlib.Core.Path.{refl}
@@ -7,8 +7,8 @@ use Rattle.watch_session.proofs.Laws.{says-as}
 use Rattle.text_logs.proofs.Feeding.{line-whole}
 use Rattle.watch_session.specs.Watch.{watchOf, answerTo}
 use Rattle.watch_session.proofs.Laws.{answer-take}
-use Rattle.watch_logs.proofs.end_line.Statement.{statement}
-use Rattle.watch_logs.proofs.end_line.Tie as tie
+use Rattle.watch_joins.proofs.end_line.Statement.{statement}
+use Rattle.watch_joins.proofs.end_line.Tie as tie
 
 returns : tie.Need-returns
 unfolding heldAtEnd
