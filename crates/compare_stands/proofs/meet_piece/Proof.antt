@@ -1,13 +1,13 @@
--- `compare_program::meet_piece`: what is held stays so from call to call, and all places lie in their memories. Assumes nothing.
+-- `compare_stands::meet_piece`: what is held stays so from call to call, and all places lie in their memories. Assumes nothing.
 use mathlib.Core.Path.{_≡_, _∙_}
 use Prim.Native.Nat.{_≤_}
 use native.Mathlib.Omega.{arith}
 use borrow.Author.Needs.{needs}
-use Rattle.compare_program.proofs.Laws.{holding-on, rest-long}
+use Rattle.compare_stands.proofs.Laws.{holding-on, rest-long}
 use Rattle.compare_pieces.specs.Meeting.{Holding}
 use lib.ListN.{length}
-use Rattle.compare_program.proofs.meet_piece.Statement.{statement}
-use Rattle.compare_program.proofs.meet_piece.Tie as tie
+use Rattle.compare_stands.proofs.meet_piece.Statement.{statement}
+use Rattle.compare_stands.proofs.meet_piece.Tie as tie
 
 abbrev Inv-loop : tie.InvT-loop
 Inv-loop words₀ rows₀ next₀ told₀ kept₀ held₀ piece answers seen₀ line₀ s₀ i₀ turns₀ words rows next told kept held seen line s i turns =

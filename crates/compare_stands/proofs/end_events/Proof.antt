@@ -1,12 +1,12 @@
--- `compare_program::end_events`: what is held is what `compare_ends::finish` asks for. Assumes nothing.
+-- `compare_stands::end_events`: what is held is what `compare_ends::finish` asks for. Assumes nothing.
 use mathlib.Core.Path.{_∙_}
 use Prim.Native.Nat.{ℕ}
 use native.Mathlib.Omega.{arith}
 use borrow.Author.Needs.{needs}
-use Rattle.compare_program.proofs.Laws.{holding-on}
+use Rattle.compare_stands.proofs.Laws.{holding-on}
 use lib.ListN.{length-replicate}
-use Rattle.compare_program.proofs.end_events.Statement.{statement}
-use Rattle.compare_program.proofs.end_events.Tie as tie
+use Rattle.compare_stands.proofs.end_events.Statement.{statement}
+use Rattle.compare_stands.proofs.end_events.Tie as tie
 
 finish-requires : tie.Need-finish-requires
 finish-requires c κs =
