@@ -2,15 +2,12 @@
 ghost use mathlib.Core.Path.{_≡_};
 ghost use Prim.Native.Nat.{_<_};
 ghost use Rattle.map.specs.Map.{part24, part34, partOf, defaults};
-ghost use Rattle.device_rules.specs.PowerOn.{makingRefused};
 ghost use Rattle.words_images.specs.Images.{Packs};
 ghost use Rattle.device.specs.Held.{stateIn, Makes, Steps};
 ghost use Rattle.device.specs.Asked.{lowOf, highOf, lineOf, shownOf};
 use device_rules::Answer;
 use device_rules::BAD_ARGUMENT;
 use device_rules::BAD_IMAGE;
-use device_rules::LAST_CHOICE;
-use device_rules::LAST_ID;
 use device_rules::NONE;
 use device_rules::QUIET;
 use map::LAST_NUMBER;
@@ -73,22 +70,6 @@ fn wide(byte: u8) -> u64
     byte as u64
 }
 
-// What refuses to make a device of the part: its number, 0 for none.
-fn making_refusal(part: u8, choice: u8, levels: u64, number: u64) -> u8
-    ensures { λ n. ⌜ n ≡ makingRefused (partOf part) choice levels number ⌝ }
-{
-    if LAST_CHOICE < choice {
-        return BAD_ARGUMENT;
-    }
-    if map::pins_of(part as u64) < levels {
-        return BAD_ARGUMENT;
-    }
-    if LAST_ID < number {
-        return BAD_ARGUMENT;
-    }
-    NONE
-}
-
 impl Device {
     // the most writes that a plan may have
     pub const WRITE_BOUND: usize = 16;
@@ -141,7 +122,7 @@ impl Device {
         requires { ⌜ part < 2 ⌝ }
         ensures { λ m. ⌜ Makes part choice levels number m ⌝ }
     {
-        let refusal = making_refusal(part, choice, levels, number);
+        let refusal = device_making::refusal(part as u64, choice as u32, levels, number);
         let file = Self::file_at_reset(part);
         let sets = Sets {
             level: levels,

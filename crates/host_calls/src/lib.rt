@@ -1,7 +1,7 @@
 // What a C call does, the part given as its number: each function stands behind two that are exported.
 ghost use Prim.Native.Nat.{_<_};
 ghost use Rattle.host_words.specs.Host.{Told, Made, Seen, Shown, drivesOf, intOf, imageIn, FromImage, ToImage};
-use device_rules::LAST_ID;
+use device_rules::NONE;
 use pins::Sets;
 use words::BUS;
 use words::CHOICE;
@@ -28,9 +28,6 @@ pub const PCAL6524: u64 = 0;
 
 pub const PCAL6534: u64 = 1;
 
-// The last address choice.
-const LAST_CHOICE: u32 = 3;
-
 // The last register number.
 const LAST_NUMBER: u32 = 127;
 
@@ -39,14 +36,9 @@ pub fn power_on(words: &mut [u64; 28], part: u64, choice: u32, levels: u64, numb
     requires { ⌜ part < 2 ⌝ }
     ensures { λ r. ⌜ Made part choice levels number r (now (words .entry)) (now (words .exit)) ⌝ }
 {
-    if LAST_CHOICE < choice {
-        return BAD_ARGUMENT;
-    }
-    if map::pins_of(part) < levels {
-        return BAD_ARGUMENT;
-    }
-    if LAST_ID < number {
-        return BAD_ARGUMENT;
+    let refusal = device_making::refusal(part, choice, levels, number);
+    if refusal != NONE {
+        return refusal as u32;
     }
     words_device::power_on(words, part, (choice % 4) as u8, levels, number);
     DONE

@@ -63,9 +63,8 @@ pub made : (c choice levels id : ℕ) (w w' : List ℕ) → 0 ≡ makingRefused 
 made c choice levels id w w' e q =
     record { refused = e; made = λ h. q; unchanged = λ h. clash (eqb (makingRefused (partOf c) choice levels id) 0) (ap (λ (n : ℕ). eqb n 0) (sym e)) h }
 
-pub not-made : (c choice levels id : ℕ) (w : List ℕ) → 2 ≡ makingRefused (partOf c) choice levels id → Made c choice levels id 2 w w
-not-made c choice levels id w e =
-    record { refused = e; made = λ h. clash true refl (ap (λ (n : ℕ). eqb n 2) (e ∙ h)); unchanged = λ h. refl }
+pub not-made : (c choice levels id number : ℕ) (w : List ℕ) → number ≡ makingRefused (partOf c) choice levels id → (number ≡ 0 → ⊥) → Made c choice levels id number w w
+not-made c choice levels id number w e some = record { refused = e; made = λ h. absurd (some (e ∙ h)); unchanged = λ h. refl }
 
 -- ---- what can be seen
 module _ (c : ℕ) (w : List ℕ) (value : Part → State → List ℕ) (lent : List ℕ) where

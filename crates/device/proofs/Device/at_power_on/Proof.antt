@@ -9,7 +9,7 @@ use Rattle.device.proofs.Device.at_power_on.Tie as tie
 returns : tie.Need-returns
 returns c =
     let x = c .before .before .args in
-    record { as-ruled = made-of (partOf (x .part)) (x .choice) (x .levels) (x .number) (c .before .making-refusal .ensures) (c .file-at-reset .ensures); part-is = refl }
+    record { as-ruled = made-of (partOf (x .part)) (x .choice) (x .levels) (x .number) (c .before .refusal .ensures) (c .file-at-reset .ensures); part-is = refl }
 
 pub at-power-on-spec : {M : Type 1} → statement M
 at-power-on-spec = tie.close (tie.spec (λ c κs. search needs) (λ c κs. search needs) returns)

@@ -1,11 +1,11 @@
--- `device::making_refusal`: each test is one of the refusal's. Assumes nothing.
+-- `device_making::refusal`: each test is one of the refusal's. Assumes nothing.
 use borrow.Author.Needs.{needs}
 use native.Mathlib.Omega.{arith}
 use lib.Pow.{pow-pos}
 use Rattle.map.specs.Map.{partOf}
 use Rattle.device_rules.proofs.Making.{choice-over, levels-over, id-over, none-over}
-use Rattle.device.proofs.making_refusal.Statement.{statement}
-use Rattle.device.proofs.making_refusal.Tie as tie
+use Rattle.device_making.proofs.refusal.Statement.{statement}
+use Rattle.device_making.proofs.refusal.Tie as tie
 
 returns : tie.Need-returns
 returns c = let x = c .before .args in choice-over (partOf (x .part)) (x .choice) (x .levels) (x .number) (omega (arith, c .if1 .taken))
@@ -36,5 +36,5 @@ returns-4 c =
     let some = pow-pos (partOf (x .part) .width) in
     none-over (partOf (x .part)) (x .choice) (x .levels) (x .number) (omega (arith, tested .if1 .left)) (omega (arith, all, some, fits .if2 .left)) (omega (arith, c .if3 .left))
 
-pub making-refusal-spec : {M : Type 1} → statement M
-making-refusal-spec = tie.close (tie.spec returns (λ c κs. search needs) returns-2 returns-3 returns-4)
+pub refusal-spec : {M : Type 1} → statement M
+refusal-spec = tie.close (tie.spec (λ c. search needs) returns (λ c κs. search needs) returns-2 returns-3 returns-4)
