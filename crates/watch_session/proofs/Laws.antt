@@ -36,13 +36,14 @@ use Rattle.loss_rules.proofs.Laws.{fit-after, fit-signed}
 use Rattle.loss_sets.specs.Sets.{marksIn, MakesMarks}
 use Rattle.loss_marks.specs.Lent.{Signs}
 use Rattle.loss_marks.proofs.Stepping.{status-small, by-outcome}
+use Rattle.watch_answers.specs.Marked.{markedLine, refusalLine}
+use Rattle.watch_answers.proofs.Lines.{marked-short, refusal-short}
 use Rattle.watch_lines.specs.Watching.{saidBy}
 use Rattle.watch_lines.specs.declared.Said.{Said}
 use Rattle.watch_lines.specs.declared.Said.the-variants.{Device, Event, SignOff, Unreadable}
 use Rattle.watch_lines.proofs.Laws.{said-tiny, said-long}
-use Rattle.watch_session.specs.Watch.{Session, watchOf, partIn, markedLine, refusalLine, toldBy, refusedBy, signedBy, markedBy, watched, answerTo, Kept, Holds, Says}
+use Rattle.watch_session.specs.Watch.{Session, watchOf, partIn, toldBy, refusedBy, signedBy, markedBy, watched, answerTo, Kept, Holds, Says}
 use Rattle.watch_session.specs.Watch.Session.{NoDevice, With}
-use Rattle.watch_session.proofs.Lines.{marked-short, refusal-short}
 
 pub says-as : {t u : Reply Session} {words₀ marks₀ out : List ℕ} {at end : ℕ} {left words marks : List ℕ} → t ≡ u → Says t words₀ marks₀ out at end left words marks → Says u words₀ marks₀ out at end left words marks
 says-as e s = rw e at s

@@ -1,7 +1,7 @@
 -- One line in, one line out: a trace with the loss marks beside the device.
 use mathlib.Core.Path.{_≡_}
 use mathlib.Core.Bool.{true, false, cond}
-use mathlib.Core.List.{List, _∷_, _++_}
+use mathlib.Core.List.{List}
 use Prim.Native.Nat.{ℕ}
 use lib.Dec.{eqb, ltb}
 use lib.ListN.{getD}
@@ -11,11 +11,11 @@ use Rattle.device_rules.specs.declared.Answer.the-variants.{Nothing}
 use Rattle.device_rules.specs.PowerOn.{powerOn}
 use Rattle.words_state.specs.Packed.{partWord, stateIn}
 use Rattle.words_device.specs.Named.{Named}
-use Rattle.text.specs.Text.{hexText, Wrote}
+use Rattle.text.specs.Text.{Wrote}
 use Rattle.text_logs.specs.Lines.{Reply}
-use Rattle.text_answers.specs.Answers.{digitsOf, unlessRefused, newline, shownText, refusedLine}
 use Rattle.loss_rules.specs.Marks.{Marks, Marked, SignedOff, marksFit, newMarks, markedStep, signOff}
 use Rattle.loss_sets.specs.Sets.{marksIn}
+use Rattle.watch_answers.specs.Marked.{markedLine, refusalLine}
 use Rattle.watch_lines.specs.Watching.{saidBy}
 use Rattle.watch_lines.specs.declared.Said.{Said}
 use Rattle.watch_lines.specs.declared.Said.the-variants.{Device, Event, SignOff, Unreadable}
@@ -33,15 +33,6 @@ watchOf w m = cond (ltb (getD w partWord 0) 2) (With (getD w partWord 0) (stateI
 abbrev pub partIn : Session → Part
 partIn NoDevice = part34
 partIn (With part s m) = partOf part
-
--- a trace's text, a tab and the pins that are marked; nothing follows a refusal
-unfoldable pub markedLine : Part → Outcome → (set : ℕ) → List ℕ
-markedLine p o set = (shownText p o ++ unlessRefused (o .answer) (0x09 ∷ hexText (digitsOf p) set)) ++ newline
-
--- a refusal's line: `refused`, a tab and the number, of which 13 alone has two digits
-unfoldable pub refusalLine : (number : ℕ) → List ℕ
-refusalLine number =
-    cond (eqb number 13) (0x72 ∷ 0x65 ∷ 0x66 ∷ 0x75 ∷ 0x73 ∷ 0x65 ∷ 0x64 ∷ 0x09 ∷ 0x31 ∷ 0x33 ∷ newline) (refusedLine number)
 
 abbrev pub toldBy : (part : ℕ) → Outcome → Marks → Reply Session
 toldBy part o m = record { line = markedLine (partOf part) o (m .set); after = With part (o .after) m }

@@ -1,6 +1,5 @@
 // The watch program's work: one line in, one line out, as a trace has it, with the loss marks beside the device and at the end of each line.
-ghost use mathlib.Core.List.{List, _∷_, _++_};
-ghost use Prim.Native.Nat.{ℕ, _+_, _^_, _<_, _≤_};
+ghost use Prim.Native.Nat.{_+_, _^_, _<_, _≤_};
 ghost use lib.ListN.{length, getD};
 ghost use Rattle.map.specs.Map.{partOf};
 ghost use Rattle.device_rules.specs.Device.{out as outcome};
@@ -8,52 +7,19 @@ ghost use Rattle.device_rules.specs.declared.Answer.the-variants.{Nothing};
 ghost use Rattle.device_rules.specs.PowerOn.{powerOn};
 ghost use Rattle.words_state.specs.Packed.{stateIn};
 ghost use Rattle.words_device.specs.Named.{Named};
-ghost use Rattle.text.specs.Text.{hexText, Wrote};
-ghost use Rattle.text_answers.specs.Answers.{digitsOf, newline};
+ghost use Rattle.text.specs.Text.{Wrote};
 ghost use Rattle.trace_lines.specs.Lines.{Taken};
 ghost use Rattle.trace_columns.specs.Columns.{Fresh};
 ghost use Rattle.trace_session.specs.Tracing.{Beside};
 ghost use Rattle.loss_rules.specs.Marks.{newMarks};
-ghost use Rattle.watch_session.specs.Watch.{watchOf, refusalLine, markedLine, toldBy, watched, answerTo, Kept, Says};
+ghost use Rattle.watch_answers.specs.Marked.{markedLine};
+ghost use Rattle.watch_session.specs.Watch.{watchOf, toldBy, watched, answerTo, Kept, Says};
 use device_rules::Answer;
-use device_rules::UNREADABLE;
-use loss_marks::NOT_HEALTHY;
 use loss_sets::SET;
 use trace_session::NO_PART;
 use watch_lines::Said;
 use words::PART;
 use words::STATUS;
-
-// Refusal 7.
-fn refuse(out: &mut [u8], at: usize) -> usize
-    requires { ⌜ at + 36 ≤ length (now out) ⌝ }
-    ensures { λ end. ⌜ Wrote (now (out .entry)) at (refusalLine 7) end (now (out .exit)) ⌝ }
-{
-    text_answers::put_refused(out, at, UNREADABLE)
-}
-
-// A sign-off's refusal.
-fn refuse_sign(out: &mut [u8], at: usize, number: u32) -> usize
-    requires { ⌜ (at + 36 ≤ length (now out)) × (number < 256) ⌝ }
-    ensures { λ end. ⌜ Wrote (now (out .entry)) at (refusalLine number) end (now (out .exit)) ⌝ }
-{
-    if number == NOT_HEALTHY {
-        return text::put(out, at, b"refused\t13\n");
-    }
-    text_answers::put_refused(out, at, number as u8)
-}
-
-// Puts the marks at the end of a line that ends here, in place of its newline, and says where it ends then.
-fn put_marks(out: &mut [u8], end: usize, part: u64, set: u64) -> usize
-    requires { ⌜ (0 < end) × (end + 10 ≤ length (now out)) ⌝ }
-    ensures { λ r. ⌜ ((lent : List ℕ) (at : ℕ) (text : List ℕ) → Wrote lent at (text ++ newline) end (now (out .entry))
-        → Wrote lent at (text ++ ((0x09 ∷ hexText (digitsOf (partOf part)) set) ++ newline)) r (now (out .exit))) ⌝ }
-{
-    let start = text::put(out, end - 1, b"\t");
-    let digits = text_answers::digits_of(part);
-    let last = text::put_hex(out, start, digits, set);
-    text::put(out, last, b"\n")
-}
 
 // A device anew, with marks that are all set.
 fn make(
@@ -76,7 +42,7 @@ fn make(
 {
     let end = trace_session::make(words, rows, next, told, kept, part, choice, levels, out, at);
     loss_sets::make(marks, part, healthy);
-    put_marks(out, end, part, marks[SET])
+    watch_answers::put_marks(out, end, part, marks[SET])
 }
 
 // An event of the device that there is, which is not refused; what it sets is marked.
@@ -101,7 +67,7 @@ fn event_on(
     let resets = loss_marks::is_reset(&*words, kind);
     let end = trace_session::event(words, rows, next, told, kept, kind, arg, out, at);
     loss_sets::note(marks, resets, before, words[STATUS]);
-    put_marks(out, end, words[PART], marks[SET])
+    watch_answers::put_marks(out, end, words[PART], marks[SET])
 }
 
 // An event, on the device if there is one.
@@ -125,7 +91,7 @@ fn event(
     if words[PART] < NO_PART {
         return event_on(words, rows, next, told, kept, marks, kind, arg, out, at);
     }
-    refuse(out, at)
+    watch_answers::refuse(out, at)
 }
 
 // A sign-off that was taken on the device that there is.
@@ -143,7 +109,7 @@ fn signed(
 {
     trace_columns::renew(words, told, kept);
     let end = text_answers::put_line(out, at, words[PART], Answer::Nothing, &*kept);
-    put_marks(out, end, words[PART], set)
+    watch_answers::put_marks(out, end, words[PART], set)
 }
 
 // A sign-off on the device that there is.
@@ -164,7 +130,7 @@ fn sign_on(
     if number == 0 {
         return signed(words, told, kept, marks[SET], out, at);
     }
-    refuse_sign(out, at, number)
+    watch_answers::refuse_sign(out, at, number)
 }
 
 // A sign-off, on the device if there is one.
@@ -184,7 +150,7 @@ fn sign(
     if words[PART] < NO_PART {
         return sign_on(words, told, kept, marks, pin, out, at);
     }
-    refuse(out, at)
+    watch_answers::refuse(out, at)
 }
 
 // One line, without its newline: its answer is written from at on; says where it ends.
@@ -228,6 +194,6 @@ pub fn answer_line(
             event(words, rows, next, told, kept, marks, kind, arg, out, at)
         }
         Said::SignOff { pin } => sign(&*words, told, kept, marks, pin, out, at),
-        Said::Unreadable => refuse(out, at),
+        Said::Unreadable => watch_answers::refuse(out, at),
     }
 }

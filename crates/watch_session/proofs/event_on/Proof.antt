@@ -7,7 +7,7 @@ use Rattle.map.specs.Map.{partOf}
 use Rattle.device_rules.specs.Refusals.{stepped}
 use Rattle.words_state.specs.Packed.{stateIn}
 use Rattle.trace_session.proofs.Laws.{says-as}
-use Rattle.watch_session.proofs.Lines.{with-marks, room-left}
+use Rattle.watch_answers.proofs.Lines.{with-marks, room-left}
 use Rattle.watch_session.proofs.Laws.{event-traced, event-answers, event-says, part-after}
 use Rattle.watch_session.proofs.event_on.Statement.{statement}
 use Rattle.watch_session.proofs.event_on.Tie as tie

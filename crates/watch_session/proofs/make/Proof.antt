@@ -7,7 +7,7 @@ use Rattle.device_rules.specs.Device.{out}
 use Rattle.device_rules.specs.declared.Answer.the-variants.{Nothing}
 use Rattle.device_rules.specs.PowerOn.{powerOn}
 use Rattle.loss_rules.proofs.Laws.{fit-new}
-use Rattle.watch_session.proofs.Lines.{with-marks, room-left}
+use Rattle.watch_answers.proofs.Lines.{with-marks, room-left}
 use Rattle.watch_session.proofs.Laws.{marks-made, device-there, made-says}
 use Rattle.watch_session.proofs.make.Statement.{statement}
 use Rattle.watch_session.proofs.make.Tie as tie

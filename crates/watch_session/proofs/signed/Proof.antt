@@ -7,7 +7,7 @@ use Rattle.device_rules.specs.Device.{out}
 use Rattle.device_rules.specs.declared.Answer.the-variants.{Nothing}
 use Rattle.words_state.specs.Packed.{stateIn}
 use Rattle.trace_columns.proofs.Laws.{kept-line}
-use Rattle.watch_session.proofs.Lines.{with-marks, room-left}
+use Rattle.watch_answers.proofs.Lines.{with-marks, room-left}
 use Rattle.watch_session.proofs.signed.Statement.{statement}
 use Rattle.watch_session.proofs.signed.Tie as tie
 

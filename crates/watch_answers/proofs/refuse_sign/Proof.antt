@@ -1,9 +1,9 @@
--- `watch_session::refuse_sign`: 13 has two digits, any other number is as a trace has it. Assumes nothing.
+-- `watch_answers::refuse_sign`: 13 has two digits, any other number is as a trace has it. Assumes nothing.
 use borrow.Author.Needs.{needs}
 use Rattle.text.proofs.Laws.{wrote-as}
-use Rattle.watch_session.proofs.Lines.{thirteen, any-other}
-use Rattle.watch_session.proofs.refuse_sign.Statement.{statement}
-use Rattle.watch_session.proofs.refuse_sign.Tie as tie
+use Rattle.watch_answers.proofs.Lines.{thirteen, any-other}
+use Rattle.watch_answers.proofs.refuse_sign.Statement.{statement}
+use Rattle.watch_answers.proofs.refuse_sign.Tie as tie
 
 returns : tie.Need-returns
 returns c = wrote-as (thirteen _ (c .before .before .before .before .before .if1 .taken)) (c .before .before .put .ensures)

@@ -17,7 +17,7 @@ use Rattle.text.specs.Text.{hexText, Wrote}
 use Rattle.text.proofs.Laws.{over-last, wrote-both, wrote-as, wrote-length, hex-length}
 use Rattle.text_answers.specs.Answers.{digitsOf, unlessRefused, newline, shownText, shownLine, refusedLine}
 use Rattle.text_answers.proofs.Laws.{told-short, refused-short, digits-few}
-use Rattle.watch_session.specs.Watch.{markedLine, refusalLine}
+use Rattle.watch_answers.specs.Marked.{markedLine, refusalLine}
 
 -- a tab, digits and a newline, in place of a newline
 pub marks-text : (p : Part) (set : ℕ) {lent one two three left : List ℕ} {at end start stop last digits : ℕ} (text : List ℕ) → digits ≡ digitsOf p → Wrote lent at (text ++ newline) end one

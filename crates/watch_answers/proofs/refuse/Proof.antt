@@ -1,8 +1,8 @@
--- `watch_session::refuse`: 7 has one digit. Assumes nothing.
+-- `watch_answers::refuse`: 7 has one digit. Assumes nothing.
 use borrow.Author.Needs.{needs}
-use Rattle.watch_session.specs.Watch.{refusalLine}
-use Rattle.watch_session.proofs.refuse.Statement.{statement}
-use Rattle.watch_session.proofs.refuse.Tie as tie
+use Rattle.watch_answers.specs.Marked.{refusalLine}
+use Rattle.watch_answers.proofs.refuse.Statement.{statement}
+use Rattle.watch_answers.proofs.refuse.Tie as tie
 
 returns : tie.Need-returns
 unfolding refusalLine
