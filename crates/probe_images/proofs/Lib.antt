@@ -1,3 +1,2 @@
 pub mod Spoken
-pub mod Told
 pub mod Answered

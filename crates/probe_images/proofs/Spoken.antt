@@ -10,12 +10,13 @@ use Rattle.registers.specs.Interrupt.{interrupt}
 use Rattle.device_rules.specs.Device.{identity, state, out}
 use Rattle.device_rules.specs.Refusals.{stepped}
 use Rattle.probe_fields.specs.Fields.{readable, bytesAt, numberIn}
+use Rattle.probe_answers.specs.Answers.{probeLine}
 use Rattle.device.specs.Held.{stateIn, Steps}
 use Rattle.device.specs.declared.Device.{Device}
 use Rattle.device.specs.declared.Stepped.{Stepped}
 use Rattle.device.proofs.Asking.{ruled}
 use Rattle.probe_images.specs.Asked.{Answers}
-use Rattle.probe_images.specs.Images.{imageIn, kindIn, argumentIn, probeLine, probeText}
+use Rattle.probe_images.specs.Images.{imageIn, kindIn, argumentIn, probeText}
 
 -- ---- what the code gathers
 pub image-is : (line : List ℕ) {file : List ℕ} {level reference held edge pointer bus choice status int mode number place : ℕ} → file ≡ bytesAt line 0 128

@@ -1,16 +1,16 @@
 -- State images as text: what a line of a probe program says, and the line that answers it, for either part. Lines are given without their newline.
 use mathlib.Core.Bool.{cond}
-use mathlib.Core.List.{List, [], _∷_, _++_}
+use mathlib.Core.List.{List}
 use Prim.Native.Nat.{ℕ}
-use lib.ListN.{drop}
 use Rattle.pins.specs.declared.Sets.{Sets}
 use Rattle.map.specs.Map.{Part}
 use Rattle.registers.specs.Registers.{core}
 use Rattle.registers.specs.Interrupt.{interrupt}
-use Rattle.device_rules.specs.Device.{State, Outcome, identity, state}
+use Rattle.device_rules.specs.Device.{State, identity, state}
 use Rattle.device_rules.specs.Refusals.{stepped}
-use Rattle.text_answers.specs.Answers.{unlessRefused, newline, shownText, refusedLine}
-use Rattle.probe_fields.specs.Fields.{widths, readable, bytesAt, numberIn, bytesText, fieldsText}
+use Rattle.text_answers.specs.Answers.{refusedLine}
+use Rattle.probe_fields.specs.Fields.{readable, bytesAt, numberIn}
+use Rattle.probe_answers.specs.Answers.{probeLine}
 
 -- ---- what a readable line says
 abbrev pub setsIn : (line : List ℕ) → Sets
@@ -27,20 +27,7 @@ kindIn line = numberIn line 13
 abbrev pub argumentIn : (line : List ℕ) → ℕ
 argumentIn line = numberIn line 14
 
--- ---- the text of an image
--- the same fields as a line's, less the event's; a tab before each
-unfoldable pub imageText : State → List ℕ
-imageText s =
-    0x09 ∷ bytesText (s .regs .file)
-    ++ fieldsText (drop 1 widths)
-    (s .regs .sets .level ∷ s .regs .sets .reference ∷ s .regs .sets .held ∷ s .regs .sets .edge
-    ∷ s .pointer ∷ s .bus ∷ s .choice ∷ s .interrupt .status ∷ s .interrupt .line ∷ s .mode ∷ s .id .number ∷ s .id .place ∷ [])
-
 -- ---- the answer
--- as a trace tells the event; then the image after it, which no refusal has, and the newline
-unfoldable pub probeLine : Part → Outcome → List ℕ
-probeLine p o = shownText p o ++ (unlessRefused (o .answer) (imageText (o .after)) ++ newline)
-
 -- One step of the part on the image that a line says; refusal 7 where it is not readable.
 unfoldable pub probeText : Part → (line : List ℕ) → List ℕ
 probeText p line = cond (readable line) (probeLine p (stepped p (imageIn line) (kindIn line) (argumentIn line))) (refusedLine 7)

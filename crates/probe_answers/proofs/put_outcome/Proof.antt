@@ -1,8 +1,8 @@
--- `probe_images::put_outcome`: the answer, the image unless it is a refusal, and a newline: one text after the other. Assumes nothing.
+-- `probe_answers::put_outcome`: the answer, the image unless it is a refusal, and a newline: one text after the other. Assumes nothing.
 use borrow.Author.Needs.{needs}
-use Rattle.probe_images.proofs.Told.{line-answered, line-refused}
-use Rattle.probe_images.proofs.put_outcome.Statement.{statement}
-use Rattle.probe_images.proofs.put_outcome.Tie as tie
+use Rattle.probe_answers.proofs.Told.{line-answered, line-refused}
+use Rattle.probe_answers.proofs.put_outcome.Statement.{statement}
+use Rattle.probe_answers.proofs.put_outcome.Tie as tie
 
 returns : tie.Need-returns
 returns c =

@@ -1,9 +1,9 @@
--- `probe_images::put_image`: a tab and the registers, the sets, the bus, the interrupt, the mode and the Device ID: one text after the other. Assumes nothing.
+-- `probe_answers::put_image`: a tab and the registers, the sets, the bus, the interrupt, the mode and the Device ID: one text after the other. Assumes nothing.
 use borrow.Author.Needs.{needs}
 use Rattle.text.proofs.Laws.{wrote-as, wrote-both}
-use Rattle.probe_images.proofs.Told.{image-text}
-use Rattle.probe_images.proofs.put_image.Statement.{statement}
-use Rattle.probe_images.proofs.put_image.Tie as tie
+use Rattle.probe_answers.proofs.Told.{image-text}
+use Rattle.probe_answers.proofs.put_image.Statement.{statement}
+use Rattle.probe_answers.proofs.put_image.Tie as tie
 
 returns : tie.Need-returns
 returns c =

@@ -24,7 +24,7 @@ use Rattle.words.specs.Words.{coreIn, interruptIn, Fit}
 use Rattle.words_images.specs.Images.{Packs}
 use Rattle.probe_fields.specs.Fields.{widths, bytesText, fieldsText}
 use Rattle.probe_fields.proofs.Writing.{fields-both}
-use Rattle.probe_images.specs.Images.{imageText, probeLine}
+use Rattle.probe_answers.specs.Answers.{imageText, probeLine}
 
 pub image-text : (s : State)
     → 0x09 ∷ bytesText (s .regs .file)

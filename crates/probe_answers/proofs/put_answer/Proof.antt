@@ -1,11 +1,11 @@
--- `probe_images::put_answer`: the words that the image is packed into show what the image does (`words-text`), and a refusal shows nothing. Assumes nothing.
+-- `probe_answers::put_answer`: the words that the image is packed into show what the image does (`words-text`), and a refusal shows nothing. Assumes nothing.
 use native.Mathlib.Omega.{arith}
 use borrow.Author.Needs.{needs}
 use Rattle.text.proofs.Laws.{wrote-as}
 use Rattle.text_answers.proofs.Laws.{text-ends, digits-few}
-use Rattle.probe_images.proofs.Told.{words-text}
-use Rattle.probe_images.proofs.put_answer.Statement.{statement}
-use Rattle.probe_images.proofs.put_answer.Tie as tie
+use Rattle.probe_answers.proofs.Told.{words-text}
+use Rattle.probe_answers.proofs.put_answer.Statement.{statement}
+use Rattle.probe_answers.proofs.put_answer.Tie as tie
 
 returns : tie.Need-returns
 returns c =
