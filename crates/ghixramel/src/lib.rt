@@ -15,9 +15,9 @@ ghost use Rattle.loss_burst.specs.MarkedBurst.{MarkedBursts};
 ghost use Rattle.loss_host.specs.MarkedHost.{MarkedTold};
 ghost use Rattle.text_pieces.specs.Pieces.{newlineAt};
 ghost use Rattle.compare_lines.specs.Comparing.{compared, partFrom};
-use host_calls::DONE;
 use host_calls::PCAL6524;
 use host_calls::PCAL6534;
+use host_words::DONE;
 
 // The calls of the PCAL6524.
 #[no_mangle]
@@ -74,7 +74,7 @@ pub extern "C" fn ghixramel_pack(
 ) -> u32
     ensures { λ r. ⌜ FromImage 0 (imageIn (now (pins .entry)) (now (registers .entry)) (now (rest .entry))) r (now (words .entry)) (now (words .exit)) ⌝ }
 {
-    host_calls::pack(words, PCAL6524, pins, registers, rest)
+    host_images::pack(words, PCAL6524, pins, registers, rest)
 }
 
 #[no_mangle]
@@ -87,7 +87,7 @@ pub extern "C" fn ghixramel_unpack(
     ensures { λ r. ⌜ ToImage 0 (now (words .entry)) r (now (pins .entry)) (now (registers .entry)) (now (rest .entry))
         (now (pins .exit)) (now (registers .exit)) (now (rest .exit)) ⌝ }
 {
-    host_calls::unpack(words, PCAL6524, pins, registers, rest)
+    host_images::unpack(words, PCAL6524, pins, registers, rest)
 }
 
 // Many events, each of twelve bytes, with two bytes of answer each.
@@ -240,7 +240,7 @@ pub extern "C" fn ghixramel34_pack(
 ) -> u32
     ensures { λ r. ⌜ FromImage 1 (imageIn (now (pins .entry)) (now (registers .entry)) (now (rest .entry))) r (now (words .entry)) (now (words .exit)) ⌝ }
 {
-    host_calls::pack(words, PCAL6534, pins, registers, rest)
+    host_images::pack(words, PCAL6534, pins, registers, rest)
 }
 
 #[no_mangle]
@@ -253,7 +253,7 @@ pub extern "C" fn ghixramel34_unpack(
     ensures { λ r. ⌜ ToImage 1 (now (words .entry)) r (now (pins .entry)) (now (registers .entry)) (now (rest .entry))
         (now (pins .exit)) (now (registers .exit)) (now (rest .exit)) ⌝ }
 {
-    host_calls::unpack(words, PCAL6534, pins, registers, rest)
+    host_images::unpack(words, PCAL6534, pins, registers, rest)
 }
 
 // Many events, each of twelve bytes, with two bytes of answer each.

@@ -7,6 +7,13 @@ ghost use Rattle.words_state.specs.Packed.{answerAt};
 ghost use Rattle.host_words.specs.Host.{toldAs, writesAfter};
 use planner_promise::Planned;
 
+// Refusals as the header has them.
+pub const DONE: u32 = 0;
+
+pub const BAD_ARGUMENT: u32 = 2;
+
+pub const BAD_IMAGE: u32 = 3;
+
 // The kind of a byte read, and the last of an answer: what is above is a refusal's.
 const READ: u32 = 3;
 

@@ -1,8 +1,8 @@
 -- `pack`: what packing judged (`from-image`, `from-none`). Assumes nothing.
 use borrow.Author.Needs.{needs}
 use Rattle.host_words.proofs.Laws.{from-image, from-none}
-use Rattle.host_calls.proofs.pack.Statement.{statement}
-use Rattle.host_calls.proofs.pack.Tie as tie
+use Rattle.host_images.proofs.pack.Statement.{statement}
+use Rattle.host_images.proofs.pack.Tie as tie
 
 returns : tie.Need-returns
 returns c = from-image _ (search needs) _ _ _ (rw (c .if1 .taken) at (c .before .pack .ensures))

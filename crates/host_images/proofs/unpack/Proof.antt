@@ -3,8 +3,8 @@ use borrow.Author.Needs.{needs}
 use borrow.Author.Tests.{not-true, not-false}
 use Rattle.bits.proofs.Decide.{clash}
 use Rattle.host_words.proofs.Laws.{to-image, to-none}
-use Rattle.host_calls.proofs.unpack.Statement.{statement}
-use Rattle.host_calls.proofs.unpack.Tie as tie
+use Rattle.host_images.proofs.unpack.Statement.{statement}
+use Rattle.host_images.proofs.unpack.Tie as tie
 
 returns : tie.Need-returns
 returns c = to-none _ _ _ _ _ (λ k. clash _ (c .before .fits2 .ensures .1 k) (not-true _ (c .if1 .taken)))
