@@ -4,7 +4,7 @@ use Prim.Native.Nat.{ℕ}
 use lib.ListN.{take}
 use Rattle.text_logs.specs.Lines.{Reply}
 use Rattle.text_logs.specs.Pieces as pieces
-use Rattle.watch_session.specs.Watch.{Session, answerTo, watchOf}
+use Rattle.watch_events.specs.Watch.{Session, answerTo, watchOf}
 
 -- what there is, and the line that has begun
 abbrev pub Reading : Type 0

@@ -3,7 +3,7 @@ ghost use mathlib.Core.Path.{_≡_};
 ghost use Prim.Native.Nat.{_+_, _≤_};
 ghost use lib.ListN.{length};
 ghost use Rattle.trace_session.specs.Tracing.{Beside};
-ghost use Rattle.watch_session.specs.Watch.{Kept, Says};
+ghost use Rattle.watch_events.specs.Watch.{Kept, Says};
 ghost use Rattle.text_logs.specs.Pieces.{grown, overlaid, heldAtEnd};
 ghost use Rattle.watch_joins.specs.Readings.{readingOf, answerOf};
 

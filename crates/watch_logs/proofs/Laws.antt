@@ -4,7 +4,7 @@ use mathlib.Core.List.{List}
 use Prim.Native.Nat.{ℕ}
 use lib.Dec.{ltb}
 use lib.ListN.{getD}
-use Rattle.watch_session.specs.Watch.{Holds}
+use Rattle.watch_events.specs.Watch.{Holds}
 
 pub holds-on : {words₀ marks₀ words marks words′ marks′ : List ℕ} → Holds words₀ marks₀ words marks → Holds words marks words′ marks′ → Holds words₀ marks₀ words′ marks′
 holds-on here then = record {

@@ -2,8 +2,8 @@
 use mathlib.Core.List.{List, [], _∷_, _++_}
 use Prim.Native.Nat.{ℕ}
 use Rattle.text_logs.specs.Lines.{linesOf, answersFrom}
-use Rattle.watch_session.specs.Watch.{answerTo}
-use Rattle.watch_session.specs.Watch.Session.{NoDevice}
+use Rattle.watch_events.specs.Watch.{answerTo}
+use Rattle.watch_events.specs.Watch.Session.{NoDevice}
 
 -- `answer`, `int`, `low`, `high` and `marks`, tabs between them, and a newline
 unfoldable pub header : List ℕ

@@ -2,8 +2,8 @@
 use mathlib.Core.List.{List, [], _++_}
 use Prim.Native.Nat.{ℕ}
 use Rattle.text_logs.specs.Pieces as pieces
-use Rattle.watch_session.specs.Watch.{Session, answerTo, watchOf, Holds}
-use Rattle.watch_session.specs.Watch.Session.{NoDevice}
+use Rattle.watch_events.specs.Watch.{Session, answerTo, watchOf, Holds}
+use Rattle.watch_events.specs.Watch.Session.{NoDevice}
 use Rattle.watch_joins.specs.Readings.{Reading}
 use Rattle.watch_logs.specs.Logs.{header}
 

@@ -5,7 +5,7 @@ ghost use Prim.Native.Nat.{ℕ, _+_, _*_, _≤_};
 ghost use lib.ListN.{length, drop};
 ghost use Rattle.text.specs.Text.{Wrote};
 ghost use Rattle.trace_session.specs.Tracing.{Beside};
-ghost use Rattle.watch_session.specs.Watch.{Kept};
+ghost use Rattle.watch_events.specs.Watch.{Kept};
 ghost use Rattle.watch_logs.specs.Logs.{header};
 ghost use Rattle.text_pieces.specs.Pieces.{takenOf};
 ghost use Rattle.text_logs.specs.Pieces.{heldAfter};

@@ -5,7 +5,7 @@ use Prim.Native.Nat.{ℕ, _≤_}
 use native.Mathlib.Omega.{arith}
 use lib.ListN.{length, replicate, length-replicate}
 use Rattle.trace_session.specs.Tracing.{Beside}
-use Rattle.watch_session.specs.Watch.{Kept}
+use Rattle.watch_events.specs.Watch.{Kept}
 use Rattle.watch.proofs.main.Statement.{statement}
 use Rattle.watch.proofs.main.Tie as tie
 

@@ -3,10 +3,10 @@ use borrow.Author.Needs.{needs}
 use borrow.Author.Tests.{eq-eqb, ne-eqb}
 use mathlib.Core.Path.{refl}
 use Rattle.text_logs.specs.Pieces.{heldAtEnd}
-use Rattle.watch_session.proofs.Laws.{says-as}
+use Rattle.watch_events.proofs.Laws.{says-as}
 use Rattle.text_logs.proofs.Feeding.{line-whole}
-use Rattle.watch_session.specs.Watch.{watchOf, answerTo}
-use Rattle.watch_session.proofs.Laws.{answer-take}
+use Rattle.watch_events.specs.Watch.{watchOf, answerTo}
+use Rattle.watch_events.proofs.Laws.{answer-take}
 use Rattle.watch_joins.proofs.end_line.Statement.{statement}
 use Rattle.watch_joins.proofs.end_line.Tie as tie
 

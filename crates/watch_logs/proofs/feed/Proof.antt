@@ -4,8 +4,8 @@ use native.Mathlib.Omega.{arith}
 use lib.ListN.{length}
 use Rattle.text_logs.proofs.Feeding.{Onward, onward-start, onward-line, onward-done, taken-some, taken-less}
 use Rattle.trace_session.specs.Tracing.{Beside}
-use Rattle.watch_session.specs.Watch.{watchOf, answerTo, Holds}
-use Rattle.watch_session.proofs.Laws.{answer-short, same-holds}
+use Rattle.watch_events.specs.Watch.{watchOf, answerTo, Holds}
+use Rattle.watch_events.proofs.Laws.{answer-short, same-holds}
 use Rattle.watch_logs.proofs.Laws.{holds-on}
 use Rattle.watch_logs.proofs.feed.Statement.{statement}
 use Rattle.watch_logs.proofs.feed.Tie as tie

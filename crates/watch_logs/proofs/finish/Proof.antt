@@ -3,8 +3,8 @@ use borrow.Author.Needs.{needs}
 use Rattle.text_logs.proofs.Feeding.{last-none, last-line}
 use lib.ListN.{take}
 use Rattle.watch_lines.specs.Watching.{saidBy}
-use Rattle.watch_session.specs.Watch.{partIn, watchOf, answerTo}
-use Rattle.watch_session.proofs.Laws.{watched-short, same-holds}
+use Rattle.watch_events.specs.Watch.{partIn, watchOf, answerTo}
+use Rattle.watch_events.proofs.Laws.{watched-short, same-holds}
 use Rattle.watch_logs.proofs.finish.Statement.{statement}
 use Rattle.watch_logs.proofs.finish.Tie as tie
 

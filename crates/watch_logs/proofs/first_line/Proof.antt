@@ -4,8 +4,8 @@ use mathlib.Core.Path.{sym, ap, _∙_}
 use Rattle.text_logs.proofs.Laws.{none-holds, line-holds}
 use Rattle.text_logs.proofs.Feeding.{none-gives, line-gives}
 use Rattle.text_logs.specs.Pieces.{reading}
-use Rattle.watch_session.specs.Watch.{watchOf, answerTo}
-use Rattle.watch_session.proofs.Laws.{same-holds}
+use Rattle.watch_events.specs.Watch.{watchOf, answerTo}
+use Rattle.watch_events.proofs.Laws.{same-holds}
 use Rattle.watch_logs.proofs.first_line.Statement.{statement}
 use Rattle.watch_logs.proofs.first_line.Tie as tie
 

@@ -3,7 +3,7 @@ use borrow.Author.Needs.{needs}
 use native.Mathlib.Omega.{arith}
 use mathlib.Core.Path.{sym, _∙_}
 use Rattle.watch_lines.proofs.Laws.{said-means}
-use Rattle.watch_session.proofs.Laws.{says-as, refused-says, line-here, device-said, event-said, sign-said, unreadable-said}
+use Rattle.watch_events.proofs.Laws.{says-as, refused-says, line-here, device-said, event-said, sign-said, unreadable-said}
 use Rattle.watch_session.proofs.answer_line.Statement.{statement}
 use Rattle.watch_session.proofs.answer_line.Tie as tie
 

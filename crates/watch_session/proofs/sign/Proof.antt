@@ -1,6 +1,6 @@
 -- `watch_session::sign`: on the device that the words hold, refusal 7 where they hold none. Assumes nothing.
 use borrow.Author.Needs.{needs}
-use Rattle.watch_session.proofs.Laws.{says-as, refused-says, sign-none}
+use Rattle.watch_events.proofs.Laws.{says-as, refused-says, sign-none}
 use Rattle.watch_session.proofs.sign.Statement.{statement}
 use Rattle.watch_session.proofs.sign.Tie as tie
 

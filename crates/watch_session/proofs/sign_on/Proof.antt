@@ -1,7 +1,7 @@
 -- `watch_session::sign_on`: told or refused by the number of the sign-off (`signed-says`, `unsigned-says`). Assumes nothing.
 use borrow.Author.Needs.{needs}
 use borrow.Author.Tests.{lt-ltb}
-use Rattle.watch_session.proofs.Laws.{number-few, signed-says, unsigned-says}
+use Rattle.watch_events.proofs.Laws.{number-few, signed-says, unsigned-says}
 use Rattle.watch_session.proofs.sign_on.Statement.{statement}
 use Rattle.watch_session.proofs.sign_on.Tie as tie
 

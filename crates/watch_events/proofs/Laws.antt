@@ -42,8 +42,8 @@ use Rattle.watch_lines.specs.Watching.{saidBy}
 use Rattle.watch_lines.specs.declared.Said.{Said}
 use Rattle.watch_lines.specs.declared.Said.the-variants.{Device, Event, SignOff, Unreadable}
 use Rattle.watch_lines.proofs.Laws.{said-tiny, said-long}
-use Rattle.watch_session.specs.Watch.{Session, watchOf, partIn, toldBy, refusedBy, signedBy, markedBy, watched, answerTo, Kept, Holds, Says}
-use Rattle.watch_session.specs.Watch.Session.{NoDevice, With}
+use Rattle.watch_events.specs.Watch.{Session, watchOf, partIn, toldBy, refusedBy, signedBy, markedBy, watched, answerTo, Kept, Holds, Says}
+use Rattle.watch_events.specs.Watch.Session.{NoDevice, With}
 
 pub says-as : {t u : Reply Session} {words₀ marks₀ out : List ℕ} {at end : ℕ} {left words marks : List ℕ} → t ≡ u → Says t words₀ marks₀ out at end left words marks → Says u words₀ marks₀ out at end left words marks
 says-as e s = rw e at s

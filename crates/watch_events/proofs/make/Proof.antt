@@ -1,4 +1,4 @@
--- `watch_session::make`: the trace's device, its marks all set, and its line with them (`made-says`). Assumes nothing.
+-- `watch_events::make`: the trace's device, its marks all set, and its line with them (`made-says`). Assumes nothing.
 use borrow.Author.Needs.{needs}
 use mathlib.Core.Path.{refl}
 use native.Mathlib.Omega.{arith}
@@ -8,9 +8,9 @@ use Rattle.device_rules.specs.declared.Answer.the-variants.{Nothing}
 use Rattle.device_rules.specs.PowerOn.{powerOn}
 use Rattle.loss_rules.proofs.Laws.{fit-new}
 use Rattle.watch_answers.proofs.Lines.{with-marks, room-left}
-use Rattle.watch_session.proofs.Laws.{marks-made, device-there, made-says}
-use Rattle.watch_session.proofs.make.Statement.{statement}
-use Rattle.watch_session.proofs.make.Tie as tie
+use Rattle.watch_events.proofs.Laws.{marks-made, device-there, made-says}
+use Rattle.watch_events.proofs.make.Statement.{statement}
+use Rattle.watch_events.proofs.make.Tie as tie
 
 make-requires : tie.Need-make-requires
 make-requires c κs =

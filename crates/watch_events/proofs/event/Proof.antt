@@ -1,8 +1,8 @@
--- `watch_session::event`: on the device that the words hold, refusal 7 where they hold none. Assumes nothing.
+-- `watch_events::event`: on the device that the words hold, refusal 7 where they hold none. Assumes nothing.
 use borrow.Author.Needs.{needs}
-use Rattle.watch_session.proofs.Laws.{says-as, refused-says, event-none}
-use Rattle.watch_session.proofs.event.Statement.{statement}
-use Rattle.watch_session.proofs.event.Tie as tie
+use Rattle.watch_events.proofs.Laws.{says-as, refused-says, event-none}
+use Rattle.watch_events.proofs.event.Statement.{statement}
+use Rattle.watch_events.proofs.event.Tie as tie
 
 returns-2 : tie.Need-returns-2
 returns-2 c =

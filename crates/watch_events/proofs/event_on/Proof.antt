@@ -1,4 +1,4 @@
--- `watch_session::event_on`: what a trace says of the event, and what it sets (`event-says`). Assumes nothing.
+-- `watch_events::event_on`: what a trace says of the event, and what it sets (`event-says`). Assumes nothing.
 use borrow.Author.Needs.{needs}
 use native.Mathlib.Omega.{arith}
 use borrow.Author.Tests.{lt-ltb}
@@ -8,9 +8,9 @@ use Rattle.device_rules.specs.Refusals.{stepped}
 use Rattle.words_state.specs.Packed.{stateIn}
 use Rattle.trace_session.proofs.Laws.{says-as}
 use Rattle.watch_answers.proofs.Lines.{with-marks, room-left}
-use Rattle.watch_session.proofs.Laws.{event-traced, event-answers, event-says, part-after}
-use Rattle.watch_session.proofs.event_on.Statement.{statement}
-use Rattle.watch_session.proofs.event_on.Tie as tie
+use Rattle.watch_events.proofs.Laws.{event-traced, event-answers, event-says, part-after}
+use Rattle.watch_events.proofs.event_on.Statement.{statement}
+use Rattle.watch_events.proofs.event_on.Tie as tie
 
 event-requires : tie.Need-event-requires
 event-requires c κs =
