@@ -22,8 +22,9 @@ use Rattle.device.specs.declared.Device.{Device}
 use Rattle.registers.specs.Interrupt.{workedOut}
 use Rattle.words.specs.Words.{coreIn, interruptIn, Fit}
 use Rattle.words_images.specs.Images.{Packs}
-use Rattle.probe_fields.specs.Fields.{widths, bytesText, fieldsText}
-use Rattle.probe_fields.proofs.Writing.{fields-both}
+use Rattle.probe_fields.specs.Fields.{widths}
+use Rattle.probe_texts.specs.Texts.{bytesText, fieldsText}
+use Rattle.probe_texts.proofs.Writing.{fields-both}
 use Rattle.probe_answers.specs.Answers.{imageText, probeLine}
 
 pub image-text : (s : State)

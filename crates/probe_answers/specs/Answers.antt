@@ -5,7 +5,8 @@ use lib.ListN.{drop}
 use Rattle.map.specs.Map.{Part}
 use Rattle.device_rules.specs.Device.{State, Outcome}
 use Rattle.text_answers.specs.Answers.{unlessRefused, newline, shownText}
-use Rattle.probe_fields.specs.Fields.{widths, bytesText, fieldsText}
+use Rattle.probe_fields.specs.Fields.{widths}
+use Rattle.probe_texts.specs.Texts.{bytesText, fieldsText}
 
 -- ---- the text of an image
 -- the same fields as a line's, less the event's; a tab before each

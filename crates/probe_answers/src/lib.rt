@@ -21,11 +21,11 @@ fn put_image(out: &mut [u8], at: usize, d: Device) -> usize
     let file = d.file;
     let sets = d.sets;
     let tab = text::put(out, at, b"\t");
-    let bytes = probe_fields::put_bytes(out, tab, &file);
-    let pins = probe_fields::put_sets(out, bytes, sets.level, sets.reference, sets.held, sets.edge);
-    let bus = probe_fields::put_bus(out, pins, d.pointer, d.bus, d.choice);
-    let kept = probe_fields::put_interrupt(out, bus, d.status, d.line);
-    probe_fields::put_last(out, kept, d.mode, d.number, d.place)
+    let bytes = probe_texts::put_bytes(out, tab, &file);
+    let pins = probe_texts::put_sets(out, bytes, sets.level, sets.reference, sets.held, sets.edge);
+    let bus = probe_texts::put_bus(out, pins, d.pointer, d.bus, d.choice);
+    let kept = probe_texts::put_interrupt(out, bus, d.status, d.line);
+    probe_texts::put_last(out, kept, d.mode, d.number, d.place)
 }
 
 // The text with which a trace tells an answer. A refusal's shows nothing of the device, whose image may be a broken one.

@@ -6,7 +6,7 @@ use lib.Dec.{eqb, ltb}
 use lib.ListN.{getD, take, drop, replicate}
 use Rattle.text.specs.declared.Digits.{Digits}
 use Rattle.text.specs.declared.Digits.the-variants.{Number, None}
-use Rattle.text.specs.Text.{digitOf, fieldOf, hexText}
+use Rattle.text.specs.Text.{digitOf, fieldOf}
 
 -- the digits of each field: registers; level, reference, held, edge; pointer, bus state, address choice; status, line; mode; the Device ID's number and place; an event's kind and argument
 abbrev pub widths : List ℕ
@@ -52,14 +52,3 @@ sum (n ∷ ns) = n + sum ns
 -- field k begins after the fields before it and their tabs
 abbrev pub numberIn : (line : List ℕ) → (k : ℕ) → ℕ
 numberIn line k = numberAt line (sum (take k widths) + k) (getD widths k 0)
-
--- ---- the text of fields
-unfoldable pub bytesText : List ℕ → List ℕ
-bytesText [] = []
-bytesText (b ∷ bytes) = hexText 2 b ++ bytesText bytes
-
--- numbers in fields of such widths, a tab before each
-unfoldable pub fieldsText : (widths numbers : List ℕ) → List ℕ
-fieldsText [] numbers = []
-fieldsText (w ∷ ws) [] = []
-fieldsText (w ∷ ws) (n ∷ numbers) = 0x09 ∷ hexText w n ++ fieldsText ws numbers

@@ -8,7 +8,8 @@ use lib.ListN.{length, getD, take, drop, drop-of-length-le}
 use lib.Seq.{drop-cons}
 use Rattle.text.specs.Text.{hexText, Wrote}
 use Rattle.text.proofs.Laws.{wrote-as, wrote-both, wrote-nothing, wrote-length}
-use Rattle.probe_fields.specs.Fields.{widths, bytesText, fieldsText}
+use Rattle.probe_fields.specs.Fields.{widths}
+use Rattle.probe_texts.specs.Texts.{bytesText, fieldsText}
 
 bytes-cons : (bytes : List ℕ) (i : ℕ) → i < length bytes → bytesText (drop i bytes) ≡ hexText 2 (getD bytes i 0) ++ bytesText (drop (i + 1) bytes)
 unfolding bytesText

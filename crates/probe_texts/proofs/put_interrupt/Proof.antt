@@ -1,9 +1,9 @@
--- `probe_fields::put_interrupt`: two fields, one after the other. Assumes nothing.
+-- `probe_texts::put_interrupt`: two fields, one after the other. Assumes nothing.
 use borrow.Author.Needs.{needs}
 use Rattle.text.proofs.Laws.{wrote-as, wrote-both}
-use Rattle.probe_fields.proofs.Writing.{interrupt-text}
-use Rattle.probe_fields.proofs.put_interrupt.Statement.{statement}
-use Rattle.probe_fields.proofs.put_interrupt.Tie as tie
+use Rattle.probe_texts.proofs.Writing.{interrupt-text}
+use Rattle.probe_texts.proofs.put_interrupt.Statement.{statement}
+use Rattle.probe_texts.proofs.put_interrupt.Tie as tie
 
 returns : tie.Need-returns
 returns c =

@@ -1,9 +1,9 @@
--- `probe_fields::put_last`: three fields, one after the other. Assumes nothing.
+-- `probe_texts::put_last`: three fields, one after the other. Assumes nothing.
 use borrow.Author.Needs.{needs}
 use Rattle.text.proofs.Laws.{wrote-as, wrote-both}
-use Rattle.probe_fields.proofs.Writing.{last-text}
-use Rattle.probe_fields.proofs.put_last.Statement.{statement}
-use Rattle.probe_fields.proofs.put_last.Tie as tie
+use Rattle.probe_texts.proofs.Writing.{last-text}
+use Rattle.probe_texts.proofs.put_last.Statement.{statement}
+use Rattle.probe_texts.proofs.put_last.Tie as tie
 
 returns : tie.Need-returns
 returns c =

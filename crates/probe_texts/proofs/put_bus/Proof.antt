@@ -1,9 +1,9 @@
--- `probe_fields::put_bus`: three fields, one after the other. Assumes nothing.
+-- `probe_texts::put_bus`: three fields, one after the other. Assumes nothing.
 use borrow.Author.Needs.{needs}
 use Rattle.text.proofs.Laws.{wrote-as, wrote-both}
-use Rattle.probe_fields.proofs.Writing.{bus-text}
-use Rattle.probe_fields.proofs.put_bus.Statement.{statement}
-use Rattle.probe_fields.proofs.put_bus.Tie as tie
+use Rattle.probe_texts.proofs.Writing.{bus-text}
+use Rattle.probe_texts.proofs.put_bus.Statement.{statement}
+use Rattle.probe_texts.proofs.put_bus.Tie as tie
 
 returns : tie.Need-returns
 returns c =

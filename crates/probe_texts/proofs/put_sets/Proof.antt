@@ -1,9 +1,9 @@
--- `probe_fields::put_sets`: four fields, one after the other. Assumes nothing.
+-- `probe_texts::put_sets`: four fields, one after the other. Assumes nothing.
 use borrow.Author.Needs.{needs}
 use Rattle.text.proofs.Laws.{wrote-as, wrote-both}
-use Rattle.probe_fields.proofs.Writing.{sets-text}
-use Rattle.probe_fields.proofs.put_sets.Statement.{statement}
-use Rattle.probe_fields.proofs.put_sets.Tie as tie
+use Rattle.probe_texts.proofs.Writing.{sets-text}
+use Rattle.probe_texts.proofs.put_sets.Statement.{statement}
+use Rattle.probe_texts.proofs.put_sets.Tie as tie
 
 returns : tie.Need-returns
 returns c =

@@ -1,11 +1,11 @@
--- `probe_fields::put_bytes`: at each turn the digits written and those left are all digits (`Spelling`). Assumes nothing.
+-- `probe_texts::put_bytes`: at each turn the digits written and those left are all digits (`Spelling`). Assumes nothing.
 use native.Mathlib.Omega.{arith}
 use borrow.Author.Needs.{needs}
 use Prim.Native.Nat.{_-_}
 use lib.ListN.{length}
-use Rattle.probe_fields.proofs.Writing.{Spelling, spelling-start, spelling-on, spelling-done}
-use Rattle.probe_fields.proofs.put_bytes.Statement.{statement}
-use Rattle.probe_fields.proofs.put_bytes.Tie as tie
+use Rattle.probe_texts.proofs.Writing.{Spelling, spelling-start, spelling-on, spelling-done}
+use Rattle.probe_texts.proofs.put_bytes.Statement.{statement}
+use Rattle.probe_texts.proofs.put_bytes.Tie as tie
 
 abbrev Inv-loop : tie.InvT-loop
 Inv-loop out₀ at bytes end₀ i₀ out end i = Spelling out₀ at bytes out end i
