@@ -14,15 +14,13 @@ use loss_sets::BAD_ARGUMENT;
 use loss_sets::HEALTHY;
 use words::BUS;
 use words::STATUS;
+use words_state::ARMED;
 use words_state::WRONG_IMAGE;
 
 // Refusals as a caller has them, beside that of `loss_sets`; 0 is none.
 pub const BROKEN: u32 = 3;
 
 pub const NOT_HEALTHY: u32 = 13;
-
-// The bus state in which STOP is a reset.
-const ARMED: u64 = 6;
 
 // The last kind of an answer that is no refusal.
 const LAST_ANSWER: u32 = 3;
