@@ -37,7 +37,7 @@ fn stale(words: &[u64; 28]) -> u64
         → (s ≡ 0 → interruptIn (now (words .entry)) ≡ workedOut (partOf c) (coreIn (partOf c) (now (words .entry))))
         × (interruptIn (now (words .entry)) ≡ workedOut (partOf c) (coreIn (partOf c) (now (words .entry))) → s ≡ 0)) ⌝ }
 {
-    let status = words_views::statuses(words);
+    let status = words_pins::statuses(words);
     let line = words_views::line_of(status);
     (words[STATUS] ^ status) | (words[LINE] ^ line)
 }

@@ -1,74 +1,20 @@
 // What can be seen of the words, what a fetch shows and does, and the levels: for either part.
 ghost use mathlib.Core.Path.{_≡_};
 ghost use mathlib.Core.Bool.{false, cond};
-ghost use Prim.Native.Nat.{ℕ, _-_, _*_, _/_, _^_, _<_};
-ghost use lib.ListN.{getD};
+ghost use Prim.Native.Nat.{ℕ, _-_, _^_, _<_};
 ghost use Rattle.bits.specs.Bits.{bit};
-ghost use Rattle.pins.specs.AllPins.{PinsOf, sourceAt, asserted};
-ghost use Rattle.pins.specs.OnePin.{inputOf, statusOf};
+ghost use Rattle.pins.specs.AllPins.{asserted};
 ghost use Rattle.map.specs.Map.{kindAt, reserved, partOf};
 ghost use Rattle.map.specs.Map.Kind.{Input, InputStatus};
 ghost use Rattle.registers.specs.Registers.{levelled, fetched, drivenLow, drivenHigh, intAsserted};
 ghost use Rattle.registers.specs.Interrupt.{workedOut, shownKept};
-ghost use Rattle.words.specs.Words.{coreIn, interruptIn, withInterrupt, wordsAt, pinIn, Fit, PinLevels, Holds};
+ghost use Rattle.words.specs.Words.{coreIn, interruptIn, withInterrupt, Fit, PinLevels, Holds};
 ghost use Rattle.words_rows.specs.Rows.{rowAt, wordIn, Known};
-use pins::Sources;
 use words::CONFIGURATION;
-use words::FALLING;
-use words::LATCH;
 use words::LINE;
-use words::MASK;
 use words::OUTPUT;
 use words::PIN_KIND;
-use words::POLARITY;
-use words::PORT_KIND;
-use words::RISING;
 use words::STATUS;
-
-// The registers that events depend on.
-fn sources(words: &[u64; 28]) -> Sources
-    ensures { λ v. ⌜ ((i : ℕ) → sourceAt v i ≡ wordsAt (now (words .entry)) i .source) × (v .configuration ≡ getD (now (words .entry)) 4 0) ⌝ }
-{
-    Sources {
-        configuration: words[CONFIGURATION],
-        mask: words[MASK],
-        latch: words[LATCH],
-        rising: words[RISING],
-        falling: words[FALLING],
-    }
-}
-
-// The output port kind, at the pins of its ports.
-fn port_kinds(words: &[u64; 28]) -> u64
-    ensures { λ s. ⌜ ((i : ℕ) → i < 40 → bit s i ≡ bit (getD (now (words .entry)) 7 0) (i / 8)) ⌝ }
-{
-    ports::spread((words[PORT_KIND] % 32) as u8)
-}
-
-// The input port bits.
-fn inputs(words: &[u64; 28]) -> u64
-    ensures { λ s. ⌜ ((i : ℕ) → i < 40 → bit s i ≡ inputOf (pinIn (now (words .entry)) i)) ⌝ }
-{
-    let x = words::sets_in(words);
-    let kinds = port_kinds(words);
-    pins_views::input_bits(
-        words[CONFIGURATION],
-        words[LATCH],
-        words[POLARITY],
-        kinds,
-        words[PIN_KIND],
-        x,
-    )
-}
-
-// The pins whose status bit is 1.
-pub fn statuses(words: &[u64; 28]) -> u64
-    ensures { λ s. ⌜ PinsOf s (λ i. statusOf (pinIn (now (words .entry)) i)) (getD (now (words .entry)) 4 0) ⌝ }
-{
-    let v = sources(words);
-    let x = words::sets_in(words);
-    pins_views::status_bits(v, x)
-}
 
 // INT's level of a status set: 0 asserted, 1 quiet.
 pub fn line_of(status: u64) -> u64
@@ -85,7 +31,7 @@ pub fn keep(words: &mut [u64; 28])
     ensures { λ r. ⌜ ((part : ℕ) → Fit (partOf part) (now (words .entry))
         → now (words .exit) ≡ withInterrupt (now (words .entry)) (workedOut (partOf part) (coreIn (partOf part) (now (words .entry))))) ⌝ }
 {
-    let status = statuses(&*words);
+    let status = words_pins::statuses(&*words);
     words[STATUS] = status;
     words[LINE] = line_of(status);
 }
@@ -109,7 +55,7 @@ pub fn low(words: &[u64; 28], all: u64) -> u64
 pub fn high(words: &[u64; 28]) -> u64
     ensures { λ s. ⌜ ((part : ℕ) → Fit (partOf part) (now (words .entry)) → s ≡ drivenHigh (partOf part) (coreIn (partOf part) (now (words .entry)))) ⌝ }
 {
-    let kinds = port_kinds(words);
+    let kinds = words_pins::port_kinds(words);
     pins_views::driven_high(words[CONFIGURATION], words[OUTPUT], kinds, words[PIN_KIND])
 }
 
@@ -119,7 +65,7 @@ pub fn show_inputs(words: &[u64; 28], row: u32) -> u8
         → (kindAt (partOf part) n ≡ Input → b ≡ shownKept (partOf part) (kindAt (partOf part) n) (coreIn (partOf part) (now (words .entry))) (interruptIn (now (words .entry))) n)
         × (kindAt (partOf part) n ≡ InputStatus → b ≡ shownKept (partOf part) (kindAt (partOf part) n) (coreIn (partOf part) (now (words .entry))) (interruptIn (now (words .entry))) n)) ⌝ }
 {
-    ports::byte_of(inputs(words), words_rows::port(row))
+    ports::byte_of(words_pins::inputs(words), words_rows::port(row))
 }
 
 // The byte that a fetch of the register shows: interrupt status is what is kept.
@@ -156,7 +102,7 @@ pub fn set_levels(words: &mut [u64; 28], new: u64)
     ensures { λ r. ⌜ ((part : ℕ) → new < 2 ^ partOf part .width → Fit (partOf part) (now (words .entry))
         → Holds (partOf part) (now (words .entry)) (now (words .exit)) (levelled (partOf part) (coreIn (partOf part) (now (words .entry))) new)) ⌝ }
 {
-    let v = sources(&*words);
+    let v = words_pins::sources(&*words);
     let x = words::sets_in(&*words);
     let y = pins_marks::levels_to(v, x, new);
     words::put_sets(words, y);

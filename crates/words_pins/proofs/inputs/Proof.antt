@@ -1,4 +1,4 @@
--- `words_views::inputs`: the bits are `pins_views`'s, of the words' pins. Assumes nothing.
+-- `words_pins::inputs`: the bits are `pins_views`'s, of the words' pins. Assumes nothing.
 use borrow.Author.Needs.{needs}
 use mathlib.Core.Path.{ap₂, _∙_}
 use mathlib.Core.Bool.{Bool}
@@ -7,8 +7,8 @@ use Rattle.bits.specs.Bits.{bit}
 use Rattle.pins.specs.Pin.{inputBit}
 use Rattle.pins.specs.AllPins.{pinAt}
 use Rattle.pins.specs.declared.Sets.{Sets}
-use Rattle.words_views.proofs.inputs.Statement.{statement}
-use Rattle.words_views.proofs.inputs.Tie as tie
+use Rattle.words_pins.proofs.inputs.Statement.{statement}
+use Rattle.words_pins.proofs.inputs.Tie as tie
 
 returns : tie.Need-returns
 returns c =

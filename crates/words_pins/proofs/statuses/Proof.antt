@@ -1,11 +1,11 @@
--- `words_views::statuses`: the bits are `pins_views`'s, of the words' pins. Assumes nothing.
+-- `words_pins::statuses`: the bits are `pins_views`'s, of the words' pins. Assumes nothing.
 use borrow.Author.Needs.{needs}
 use mathlib.Core.Path.{ap₂, _∙_}
 use Rattle.pins.specs.Pin.{Source, status}
 use Rattle.pins.specs.AllPins.{pinAt}
 use Rattle.pins.specs.declared.Sets.{Sets}
-use Rattle.words_views.proofs.statuses.Statement.{statement}
-use Rattle.words_views.proofs.statuses.Tie as tie
+use Rattle.words_pins.proofs.statuses.Statement.{statement}
+use Rattle.words_pins.proofs.statuses.Tie as tie
 
 returns : tie.Need-returns
 returns c =

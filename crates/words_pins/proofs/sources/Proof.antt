@@ -1,8 +1,8 @@
--- `words_views::sources`: each field is its word. Assumes nothing.
+-- `words_pins::sources`: each field is its word. Assumes nothing.
 use borrow.Author.Needs.{needs}
 use mathlib.Core.Path.{refl}
-use Rattle.words_views.proofs.sources.Statement.{statement}
-use Rattle.words_views.proofs.sources.Tie as tie
+use Rattle.words_pins.proofs.sources.Statement.{statement}
+use Rattle.words_pins.proofs.sources.Tie as tie
 
 returns : tie.Need-returns
 returns c = (λ i. refl, refl)
