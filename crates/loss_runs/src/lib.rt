@@ -33,7 +33,7 @@ fn take(
     let before = words[STATUS];
     let kind = words_events::word_at(events, 12 * i);
     let resets = loss_marks::is_reset(&*words, kind);
-    let number = words_events::take(words, rows, next, pins, events, i);
+    let number = words_taking::take(words, rows, next, pins, events, i);
     if loss_marks::is_refused(number) {
         return number;
     }

@@ -26,7 +26,7 @@ pub fn run(
 {
     let mut i = 0;
     while i < asked {
-        let number = words_events::take(words, rows, next, pins, events, i);
+        let number = words_taking::take(words, rows, next, pins, events, i);
         let answer = words_state::answer(number);
         let Answer::Refused(refusal) = answer else {
             words_events::put(answers, i, number);

@@ -3,10 +3,10 @@ use borrow.Author.Needs.{needs}
 use mathlib.Core.Bool.{true, false}
 use borrow.Author.Tests.{le-leb, lt-leb}
 use Rattle.words_device.proofs.Naming.{obeyed}
 use Rattle.words_events.specs.Events.{sent, wholeOf}
 use Rattle.words_events.proofs.Doing.{plain, upper, not-plain}
-use Rattle.words_events.proofs.one.Statement.{statement}
-use Rattle.words_events.proofs.one.Tie as tie
+use Rattle.words_taking.proofs.one.Statement.{statement}
+use Rattle.words_taking.proofs.one.Tie as tie
 
 returns : tie.Need-returns
 returns c =

@@ -1,8 +1,8 @@
 -- `take`: the event's three words, and then `one`. Assumes nothing.
 use borrow.Author.Needs.{needs}
 use Rattle.words_state.proofs.Left.{by-rule}
-use Rattle.words_events.proofs.take.Statement.{statement}
-use Rattle.words_events.proofs.take.Tie as tie
+use Rattle.words_taking.proofs.take.Statement.{statement}
+use Rattle.words_taking.proofs.take.Tie as tie
 
 returns : tie.Need-returns
 returns c =
