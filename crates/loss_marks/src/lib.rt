@@ -55,7 +55,7 @@ pub fn step(words: &mut [u64; 28], marks: &mut [u64; 2], part: u64, kind: u32, a
     if is_refused(answer) {
         return answer;
     }
-    loss_sets::note(marks, resets, before, words[STATUS]);
+    loss_notes::note(marks, resets, before, words[STATUS]);
     answer
 }
 
@@ -72,9 +72,9 @@ pub fn sign_off(words: &[u64; 28], marks: &mut [u64; 2], part: u64, pin: u32) ->
     if loss_sets::width_of(part) <= pin {
         return BAD_ARGUMENT;
     }
-    if !loss_sets::is_well(words, marks[HEALTHY], pin) {
+    if !loss_signs::is_well(words, marks[HEALTHY], pin) {
         return NOT_HEALTHY;
     }
-    loss_sets::clear(marks, pin);
+    loss_signs::clear(marks, pin);
     0
 }

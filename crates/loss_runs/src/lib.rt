@@ -37,7 +37,7 @@ fn take(
     if loss_marks::is_refused(number) {
         return number;
     }
-    loss_sets::note(marks, resets, before, words[STATUS]);
+    loss_notes::note(marks, resets, before, words[STATUS]);
     number
 }
 

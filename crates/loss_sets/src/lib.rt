@@ -1,14 +1,9 @@
-// The loss marks as two pin sets in memory that is lent: the pins that are marked and each pin's healthy level. What a step and a sign-off test and store of them.
+// The loss marks as two pin sets in memory that is lent: the pins that are marked and each pin's healthy level. How they are made, and which are a part's.
 ghost use mathlib.Core.Path.{_≡_};
-ghost use mathlib.Core.Bool.{true};
-ghost use Prim.Native.Nat.{_-_, _^_, _<_, _≤_};
-ghost use lib.ListN.{getD};
-ghost use Rattle.bits.specs.Bits.{bit};
+ghost use Prim.Native.Nat.{_-_, _^_, _≤_};
 ghost use Rattle.map.specs.Map.{Part, partOf};
-ghost use Rattle.loss_rules.specs.Marks.{quietAndHealthy, noted, signed, marksFit};
+ghost use Rattle.loss_rules.specs.Marks.{marksFit};
 ghost use Rattle.loss_sets.specs.Sets.{marksIn, MakesMarks};
-use words::LEVEL;
-use words::STATUS;
 
 pub const SET: usize = 0;
 
@@ -51,45 +46,4 @@ pub fn make(marks: &mut [u64; 2], part: u64, healthy: u64) -> u32
     }
     *marks = [pins, healthy];
     0
-}
-
-// Marks what an event sets that found the status set before and left after.
-pub fn note(marks: &mut [u64; 2], resets: bool, before: u64, after: u64)
-    ensures { λ r. ⌜ ((p : Part) → marksFit p (marksIn (now (marks .entry))) ≡ true → before < 2 ^ p .width → after < 2 ^ p .width
-        → marksIn (now (marks .exit)) ≡ noted p resets before after (marksIn (now (marks .entry)))) ⌝ }
-{
-    let rose = after ^ (after & before);
-    if resets {
-        *marks = [marks[SET] | (rose | before), marks[HEALTHY]];
-        return;
-    }
-    *marks = [marks[SET] | rose, marks[HEALTHY]];
-}
-
-// Whether the set has the pin.
-pub fn has(set: u64, pin: u32) -> bool
-    requires { ⌜ pin < 64 ⌝ }
-    ensures { λ r. ⌜ r ≡ bit set pin ⌝ }
-{
-    (set >> pin) % 2 == 1
-}
-
-// Whether the pin's status bit is 0 and its level the healthy one.
-pub fn is_well(words: &[u64; 28], healthy: u64, pin: u32) -> bool
-    requires { ⌜ pin < 64 ⌝ }
-    ensures { λ r. ⌜ r ≡ quietAndHealthy (bit (getD (now (words .entry)) 19 0) pin) (bit (getD (now (words .entry)) 0 0) pin) (bit healthy pin) ⌝ }
-{
-    if has(words[STATUS], pin) {
-        return false;
-    }
-    !has(words[LEVEL] ^ healthy, pin)
-}
-
-// The pin's mark is cleared.
-pub fn clear(marks: &mut [u64; 2], pin: u32)
-    requires { ⌜ pin < 64 ⌝ }
-    ensures { λ r. ⌜ ((p : Part) → marksFit p (marksIn (now (marks .entry))) ≡ true → marksIn (now (marks .exit)) ≡ signed p pin (marksIn (now (marks .entry)))) ⌝ }
-{
-    let its = 1u64 << pin;
-    *marks = [marks[SET] ^ (marks[SET] & its), marks[HEALTHY]];
 }

@@ -60,7 +60,7 @@ fn event_on(
     let before = words[STATUS];
     let resets = loss_marks::is_reset(&*words, kind);
     let end = trace_session::event(words, rows, next, told, kept, kind, arg, out, at);
-    loss_sets::note(marks, resets, before, words[STATUS]);
+    loss_notes::note(marks, resets, before, words[STATUS]);
     watch_answers::put_marks(out, end, words[PART], marks[SET])
 }
 

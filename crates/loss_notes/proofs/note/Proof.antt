@@ -1,12 +1,12 @@
--- `loss_sets::note`: at each pin what an event sets (`noted-rise`, `noted-reset`). Assumes nothing.
+-- `loss_notes::note`: at each pin what an event sets (`noted-rise`, `noted-reset`). Assumes nothing.
 use borrow.Author.Needs.{needs}
 use mathlib.Core.Path.{sym, ap, _∙_}
 use mathlib.Core.Bool.{Bool}
 use Rattle.loss_rules.specs.Marks.{noted}
 use Rattle.loss_sets.specs.Sets.{marksIn}
-use Rattle.loss_sets.proofs.Laws.{noted-rise, noted-reset}
-use Rattle.loss_sets.proofs.note.Statement.{statement}
-use Rattle.loss_sets.proofs.note.Tie as tie
+use Rattle.loss_notes.proofs.Laws.{noted-rise, noted-reset}
+use Rattle.loss_notes.proofs.note.Statement.{statement}
+use Rattle.loss_notes.proofs.note.Tie as tie
 
 returns : tie.Need-returns
 returns c =

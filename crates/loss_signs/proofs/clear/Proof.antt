@@ -1,8 +1,8 @@
--- `loss_sets::clear`: the set without the pin (`cleared`). Assumes nothing.
+-- `loss_signs::clear`: the set without the pin (`cleared`). Assumes nothing.
 use borrow.Author.Needs.{needs}
-use Rattle.loss_sets.proofs.Laws.{cleared}
-use Rattle.loss_sets.proofs.clear.Statement.{statement}
-use Rattle.loss_sets.proofs.clear.Tie as tie
+use Rattle.loss_signs.proofs.Laws.{cleared}
+use Rattle.loss_signs.proofs.clear.Statement.{statement}
+use Rattle.loss_signs.proofs.clear.Tie as tie
 
 returns : tie.Need-returns
 returns c = λ p f. cleared p _ f _ (c .before .before .before .before .pre)

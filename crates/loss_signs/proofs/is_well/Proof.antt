@@ -1,4 +1,4 @@
--- `loss_sets::is_well`: a status bit of 1, or a level that differs from the healthy one, is not well. Assumes nothing.
+-- `loss_signs::is_well`: a status bit of 1, or a level that differs from the healthy one, is not well. Assumes nothing.
 use borrow.Author.Needs.{needs}
 use mathlib.Core.Path.{sym, ap, _∙_}
 use mathlib.Core.Bool.{Bool, not}
@@ -6,8 +6,8 @@ use lib.ListN.{getD}
 use Rattle.bits.specs.Bits.{bit}
 use Rattle.bits.proofs.Laws.{bit-xor}
 use Rattle.loss_rules.specs.Marks.{quietAndHealthy}
-use Rattle.loss_sets.proofs.is_well.Statement.{statement}
-use Rattle.loss_sets.proofs.is_well.Tie as tie
+use Rattle.loss_signs.proofs.is_well.Statement.{statement}
+use Rattle.loss_signs.proofs.is_well.Tie as tie
 
 returns : tie.Need-returns
 unfolding quietAndHealthy
