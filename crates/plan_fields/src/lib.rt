@@ -1,12 +1,8 @@
-// The two fields of a line of settings, taken byte by byte, so that a line of any length needs no more memory than a short one;
-// what the line is refused for before the planner is asked.
+// The two fields of a line of settings, taken byte by byte, so that a line of any length needs no more memory than a short one.
 ghost use mathlib.Core.Path.{_≡_};
 ghost use mathlib.Core.List.{List, [], _++_};
-ghost use Prim.Native.Nat.{ℕ, _<_, _≤_};
-ghost use lib.ListN.{length};
-ghost use Rattle.map.specs.Map.{partOf};
-ghost use Rattle.planner_quiet.specs.Settings.{registersOf};
-ghost use Rattle.plan_fields.specs.Asks.{byteTaken, digitTaken, withDigit, taken, lineRefusal, Holds, Said};
+ghost use Prim.Native.Nat.{ℕ, _<_};
+ghost use Rattle.plan_fields.specs.Asks.{byteTaken, digitTaken, withDigit, taken, Holds, Said};
 
 // One field of the line: its first sixteen bytes, how many there are (17 for more), the digit that waits (16 for none).
 pub struct Field {
@@ -126,34 +122,4 @@ pub fn grow(r: Reading, part: &[u8]) -> Reading
         i += 1;
     }
     reading
-}
-
-// How many bytes a setting of the part has.
-fn setting_bytes(part: u8) -> u8
-    ensures { λ r. ⌜ (r ≡ length (registersOf (partOf part))) × (r ≤ 16) ⌝ }
-{
-    if part == 0 {
-        return 10;
-    }
-    16
-}
-
-// What the line is refused for before the planner is asked; 0 for nothing.
-pub fn line_refusal(part: u8, r: Reading) -> u8
-    ensures { λ n. ⌜ n ≡ lineRefusal (partOf part) r ⌝ }
-{
-    let bytes = setting_bytes(part);
-    let start = r.start;
-    let goal = r.goal;
-    let whole = !r.bad & (r.tabs == 1) & (start.high == 16) & (goal.high == 16);
-    if whole {
-        if start.count == bytes {
-            if goal.count == bytes {
-                return 0;
-            }
-            return 5;
-        }
-        return 5;
-    }
-    7
 }

@@ -101,7 +101,7 @@ pub fn answer(part: u8, r: Reading, out: &mut [u8], at: usize) -> Told
     requires { ⌜ Said r × (at + 135 ≤ length (now out)) ⌝ }
     ensures { λ t. ⌜ ((line : List ℕ) → Holds r line → Tells (partOf part) line (now (out .entry)) at (t .end) (t .refusal) (now (out .exit))) × (t .end ≤ at + 135) ⌝ }
 {
-    let number = plan_fields::line_refusal(part, r);
+    let number = plan_refusals::line_refusal(part, r);
     if number != 0 {
         return Told {
             end: put_refusal(out, at, number),

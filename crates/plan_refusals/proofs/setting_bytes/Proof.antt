@@ -1,4 +1,4 @@
--- `plan_fields::setting_bytes`: ten for the first part, sixteen for its sister. Assumes nothing.
+-- `plan_refusals::setting_bytes`: ten for the first part, sixteen for its sister. Assumes nothing.
 use mathlib.Core.Path.{sym, ap}
 use Prim.Native.Nat.{ℕ}
 use native.Mathlib.Omega.{arith}
@@ -6,8 +6,8 @@ use lib.ListN.{length}
 use Rattle.map.specs.Map.{Part, partOf}
 use Rattle.map.proofs.Parts.{sister}
 use Rattle.planner_quiet.specs.Settings.{registersOf}
-use Rattle.plan_fields.proofs.setting_bytes.Statement.{statement}
-use Rattle.plan_fields.proofs.setting_bytes.Tie as tie
+use Rattle.plan_refusals.proofs.setting_bytes.Statement.{statement}
+use Rattle.plan_refusals.proofs.setting_bytes.Tie as tie
 
 returns : tie.Need-returns
 returns c = (ap (λ (n : ℕ). length (registersOf (partOf n))) (sym (c .if1 .taken)), omega arith)

@@ -1,10 +1,10 @@
--- `plan_fields::line_refusal`: each test is one of the definition's. Assumes nothing.
+-- `plan_refusals::line_refusal`: each test is one of the definition's. Assumes nothing.
 use mathlib.Core.Path.{sym, _∙_}
 use borrow.Author.Needs.{needs}
 use borrow.Author.Tests.{eq-eqb, ne-eqb}
 use Rattle.plan_fields.specs.Asks.{lineRefusal}
-use Rattle.plan_fields.proofs.line_refusal.Statement.{statement}
-use Rattle.plan_fields.proofs.line_refusal.Tie as tie
+use Rattle.plan_refusals.proofs.line_refusal.Statement.{statement}
+use Rattle.plan_refusals.proofs.line_refusal.Tie as tie
 
 returns : tie.Need-returns
 unfolding lineRefusal
