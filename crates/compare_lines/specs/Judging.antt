@@ -1,8 +1,8 @@
 -- One line that is expected, and the answers that are left: what judging it promises.
 use mathlib.Core.Path.{_≡_}
 use mathlib.Core.List.{List, [], _++_}
-use Prim.Native.Nat.{ℕ, suc, _+_, _*_, _≤_}
-use lib.ListN.{length, getD, drop}
+use Prim.Native.Nat.{ℕ, suc, _≤_}
+use lib.ListN.{length, drop}
 use Rattle.text_pieces.specs.Pieces.{newlineAt}
 use Rattle.text_answers.specs.Answers.{newline}
 use Rattle.compare_lines.specs.Comparing.{foundIn}
@@ -25,10 +25,3 @@ pub record Judges (line answers : List ℕ) (verdict taken : ℕ) : Type 0 where
       → foundIn n (line ++ expected) (answers ++ more) ≡ foundIn (suc n) expected (drop taken answers ++ more)
   pub decides : (verdict ≡ same → ⊥) → OneLine line → (n : ℕ) (expected more : List ℕ) → (length answers ≤ length line → more ≡ [])
       → foundIn n (line ++ expected) (answers ++ more) ≡ record { verdict = verdict; agreed = n; left = answers ++ more }
-
--- ---- bytes that are read as one number
-abbrev pub fourAt : List ℕ → ℕ → ℕ
-fourAt s i = getD s i 0 + 256 * getD s (i + 1) 0 + 65536 * (getD s (i + 2) 0 + 256 * getD s (i + 3) 0)
-
-abbrev pub eightAt : List ℕ → ℕ → ℕ
-eightAt s i = fourAt s i + 0x100000000 * fourAt s (i + 4)

@@ -1,9 +1,7 @@
 // One line of a bench's answers against the line that is expected.
-ghost use mathlib.Core.Path.{_≡_};
-ghost use Prim.Native.Nat.{_+_, _^_, _<_, _≤_};
+ghost use Prim.Native.Nat.{_<_};
 ghost use lib.ListN.{length};
-ghost use Rattle.text.specs.Text.{startsWith};
-ghost use Rattle.compare_lines.specs.Judging.{fourAt, eightAt, Judges};
+ghost use Rattle.compare_lines.specs.Judging.{Judges};
 
 // The verdicts, and that there is none yet.
 pub const AGREES: u8 = 0;
@@ -22,51 +20,6 @@ pub struct Judged {
     pub taken: usize,
 }
 
-fn wide(b: u8) -> u64
-    ensures { λ r. ⌜ (r ≡ b) × (r < 256) ⌝ }
-{
-    b as u64
-}
-
-// Four bytes from a place on as one number, the first the lowest.
-fn four(s: &[u8], i: usize) -> u64
-    requires { ⌜ i + 4 ≤ length (now s) ⌝ }
-    ensures { λ r. ⌜ (r ≡ fourAt (now (s .entry)) i) × (r < 2 ^ 32) ⌝ }
-{
-    let low = wide(s[i]) + 256 * wide(s[i + 1]);
-    let high = wide(s[i + 2]) + 256 * wide(s[i + 3]);
-    low + 65536 * high
-}
-
-// Eight bytes: read as one, they are compared in the time of one.
-fn eight(s: &[u8], i: usize) -> u64
-    requires { ⌜ i + 8 ≤ length (now s) ⌝ }
-    ensures { λ r. ⌜ r ≡ eightAt (now (s .entry)) i ⌝ }
-{
-    four(s, i) + 0x1_0000_0000 * four(s, i + 4)
-}
-
-// Whether s begins with the word, eight bytes a turn and the last eight at the end: lines of nearly the same length then take the same way.
-fn begins(s: &[u8], word: &[u8]) -> bool
-    ensures { λ r. ⌜ r ≡ startsWith (now (word .entry)) (now (s .entry)) ⌝ }
-{
-    let len = word.len();
-    if s.len() < len {
-        return false;
-    }
-    if len < 8 {
-        return text::starts(s, word);
-    }
-    let mut i = 0;
-    while i < len - 8 {
-        if eight(s, i) != eight(word, i) {
-            return false;
-        }
-        i += 8;
-    }
-    eight(s, len - 8) == eight(word, len - 8)
-}
-
 // A line that is expected, with its newline, against the answers that are left; a last line without a newline counts.
 pub fn judge(line: &[u8], answers: &[u8]) -> Judged
     requires { ⌜ 0 < length (now line) ⌝ }
@@ -78,7 +31,7 @@ pub fn judge(line: &[u8], answers: &[u8]) -> Judged
             taken: 0,
         };
     }
-    if begins(answers, line) {
+    if text_begins::begins(answers, line) {
         return Judged {
             verdict: SAME,
             taken: line.len(),

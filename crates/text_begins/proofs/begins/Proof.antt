@@ -1,4 +1,4 @@
--- `compare_lines::begins`: eight bytes that are the same take nothing away, eight that differ decide, and so do the last eight. Assumes nothing.
+-- `text_begins::begins`: eight bytes that are the same take nothing away, eight that differ decide, and so do the last eight. Assumes nothing.
 use borrow.Author.Needs.{needs}
 use native.Mathlib.Omega.{arith}
 use mathlib.Core.Path.{_≡_, refl, sym, _∙_}
@@ -6,9 +6,9 @@ use Prim.Native.Nat.{_-_, _≤_}
 use lib.ListN.{length, drop}
 use Rattle.text.specs.Text.{startsWith}
 use Rattle.text.proofs.Laws.{starts-short}
-use Rattle.compare_lines.proofs.Laws.{eight-on, eight-differ, last-told}
-use Rattle.compare_lines.proofs.begins.Statement.{statement}
-use Rattle.compare_lines.proofs.begins.Tie as tie
+use Rattle.text_begins.proofs.Laws.{eight-on, eight-differ, last-told}
+use Rattle.text_begins.proofs.begins.Statement.{statement}
+use Rattle.text_begins.proofs.begins.Tie as tie
 
 abbrev Inv-loop : tie.InvT-loop
 Inv-loop s word len i₀ i = (i ≤ length word) × (8 ≤ length word) × (length word ≤ length s) × (startsWith word s ≡ startsWith (drop i word) (drop i s))
