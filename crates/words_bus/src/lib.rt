@@ -36,7 +36,7 @@ pub fn event(words: &mut [u64; 28], pins: u64, row: u32, kind: u32, arg: u64) ->
             if 1 < arg {
                 return WRONG_ARGUMENT;
             }
-            words_data::fetch(words, row, arg == 1)
+            words_fetches::fetch(words, row, arg == 1)
         }
         LEVELS => {
             if pins < arg {
