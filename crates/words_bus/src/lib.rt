@@ -46,7 +46,7 @@ pub fn event(words: &mut [u64; 28], pins: u64, row: u32, kind: u32, arg: u64) ->
             NOTHING
         }
         RESET => {
-            words_state::reset(words, pins);
+            words_resets::reset(words, pins);
             NOTHING
         }
         _ => WRONG_KIND,
