@@ -36,7 +36,7 @@ pub fn stop(words: &mut [u64; 28], pins: u64) -> u32
         → Leaves c (now (words .exit)) (answerAt a) (stepOf (partOf c) (stateIn (partOf c) (now (words .entry))) Stop)) ⌝ }
 {
     if words[BUS] == ARMED {
-        words_state::reset(words, pins);
+        words_resets::reset(words, pins);
         return NOTHING;
     }
     words_state::goes(words, IDLE, NOTHING)

@@ -1,5 +1,4 @@
 pub mod Judging
 pub mod Left
-pub mod Resetting
 pub mod Standing
 pub mod Told

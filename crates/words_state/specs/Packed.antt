@@ -100,8 +100,3 @@ pub record Bounded (c : ℕ) (w : List ℕ) : Type 0 where
   pub id-small : getD w idWord 0 < 2 ^ 24
   pub place-small : getD w placeWord 0 < 3
   pub part-is : getD w partWord 0 ≡ c
-
--- the words after a reset but for the pins: no status bit, INT quiet
-abbrev pub resetWords : (pins choice id part : ℕ) → List ℕ
-resetWords pins choice id part =
-    0 ∷ 0 ∷ 0 ∷ 0 ∷ pins ∷ 0 ∷ pins ∷ 0 ∷ 0 ∷ 0 ∷ pins ∷ 0 ∷ 0 ∷ pins ∷ pins ∷ 0 ∷ pins ∷ 0 ∷ 0 ∷ 0 ∷ 1 ∷ 0 ∷ 0 ∷ choice ∷ 0 ∷ id ∷ 0 ∷ part ∷ []

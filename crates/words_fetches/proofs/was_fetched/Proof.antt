@@ -1,4 +1,4 @@
--- `words_data::was_fetched`: Deaf, or the pointer's step by the mode. Assumes nothing.
+-- `words_fetches::was_fetched`: Deaf, or the pointer's step by the mode. Assumes nothing.
 use borrow.Author.Needs.{needs}
 use mathlib.Core.Path.{refl, ap, _∙_}
 use borrow.Author.Tests.{not-true, not-false}
@@ -6,8 +6,8 @@ use lib.ListN.{getD, set}
 use Rattle.map.specs.Map.{partOf}
 use Rattle.map.proofs.Onward.{known-small, in-group, over-map}
 use Rattle.words_rows.proofs.Taken.{next-of}
-use Rattle.words_data.proofs.was_fetched.Statement.{statement}
-use Rattle.words_data.proofs.was_fetched.Tie as tie
+use Rattle.words_fetches.proofs.was_fetched.Statement.{statement}
+use Rattle.words_fetches.proofs.was_fetched.Tie as tie
 
 returns : tie.Need-returns
 returns c =

@@ -24,8 +24,9 @@ use Rattle.words.specs.Words.{slotAt, digitAt, heldBit, entryOf, fileOf, wideOf
 use Rattle.words.proofs.Sound.{sound, mapped}
 use Rattle.words.proofs.Fits.{fit-of-small}
 use Rattle.words.proofs.Holding.{holds-sets}
-use Rattle.words_state.specs.Packed.{stateIn, resetWords, Packed, Leaves}
+use Rattle.words_state.specs.Packed.{stateIn, Packed, Leaves}
 use Rattle.words_state.proofs.Left.{by-rule}
+use Rattle.words_resets.specs.Resets.{resetWords}
 
 pub record Defaults (c choice id part : ℕ) : Type 0 where
   pub file : fileOf (partOf c) (resetWords (2 ^ partOf c .width - 1) choice id part) ≡ defaults (partOf c)

@@ -1,4 +1,4 @@
--- `words_bus::byte`: each arm is the rule of its bus state. Assumes nothing.
+-- `words_bytes::byte`: each arm is the rule of its bus state. Assumes nothing.
 use borrow.Author.Needs.{needs}
 use mathlib.Core.Path.{refl, ap}
 use native.Mathlib.Omega.{arith}
@@ -8,8 +8,8 @@ use Rattle.device_rules.specs.declared.Answer.the-variants.{Nak}
 use Rattle.device_rules.proofs.Stepping.{at-bus, no-byte}
 use Rattle.words_state.specs.Packed.{stateIn, answerAt}
 use Rattle.words_state.proofs.Left.{left-same, went, in-bus}
-use Rattle.words_bus.proofs.byte.Statement.{statement}
-use Rattle.words_bus.proofs.byte.Tie as tie
+use Rattle.words_bytes.proofs.byte.Statement.{statement}
+use Rattle.words_bytes.proofs.byte.Tie as tie
 
 returns : tie.Need-returns
 unfolding byteIn

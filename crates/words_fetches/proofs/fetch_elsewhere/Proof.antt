@@ -1,12 +1,12 @@
--- `words_data::fetch_elsewhere`: in Telling the Device ID's byte, elsewhere nothing. Assumes nothing.
+-- `words_fetches::fetch_elsewhere`: in Telling the Device ID's byte, elsewhere nothing. Assumes nothing.
 use borrow.Author.Needs.{needs}
 use Rattle.map.specs.Map.{partOf}
 use Rattle.device_rules.specs.declared.Answer.the-variants.{Byte}
 use Rattle.device_rules.proofs.Stepping.{stray-fetch}
 use Rattle.words_state.specs.Packed.{stateIn}
 use Rattle.words_state.proofs.Left.{left-same}
-use Rattle.words_data.proofs.fetch_elsewhere.Statement.{statement}
-use Rattle.words_data.proofs.fetch_elsewhere.Tie as tie
+use Rattle.words_fetches.proofs.fetch_elsewhere.Statement.{statement}
+use Rattle.words_fetches.proofs.fetch_elsewhere.Tie as tie
 
 returns : tie.Need-returns
 returns c = λ k packed z. c .tell .ensures k packed (c .before .before .if1 .taken)

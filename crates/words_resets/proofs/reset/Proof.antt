@@ -1,4 +1,4 @@
--- `words_state::reset`: the defaults' words, and the pins by `pins_marks` (`reset-left`). Assumes nothing.
+-- `words_resets::reset`: the defaults' words, and the pins by `pins_marks` (`reset-left`). Assumes nothing.
 use borrow.Author.Needs.{needs}
 use mathlib.Core.Path.{ap, _∙_}
 use Rattle.pins.specs.Pin.{reset}
@@ -7,9 +7,9 @@ use Rattle.pins.specs.declared.Sets.{Sets}
 use Rattle.map.specs.Map.{partOf}
 use Rattle.words.proofs.Sound.{sound}
 use Rattle.words.proofs.Holding.{within}
-use Rattle.words_state.proofs.Resetting.{reset-left}
-use Rattle.words_state.proofs.reset.Statement.{statement}
-use Rattle.words_state.proofs.reset.Tie as tie
+use Rattle.words_resets.proofs.Resetting.{reset-left}
+use Rattle.words_resets.proofs.reset.Statement.{statement}
+use Rattle.words_resets.proofs.reset.Tie as tie
 
 returns : tie.Need-returns
 returns c =

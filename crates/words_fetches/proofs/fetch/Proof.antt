@@ -1,4 +1,4 @@
--- `words_data::fetch`: in Sending what the register shows and does, elsewhere nothing. Assumes nothing.
+-- `words_fetches::fetch`: in Sending what the register shows and does, elsewhere nothing. Assumes nothing.
 use borrow.Author.Needs.{needs}
 use mathlib.Core.Path.{_≡_, refl, sym, ap}
 use mathlib.Core.Bool.{Bool, true, false, cond}
@@ -23,8 +23,8 @@ use Rattle.words_rows.proofs.Taken.{step-known, known-inside, its-kind, low-rul
 use Rattle.words_state.specs.Packed.{stateIn, Packed, Becomes, Leaves}
 use Rattle.words_state.proofs.Left.{unrung, packed-becomes, holds-bus, holds-pointer}
 use Rattle.words_state.proofs.Standing.{named, known-row}
-use Rattle.words_data.proofs.fetch.Statement.{statement}
-use Rattle.words_data.proofs.fetch.Tie as tie
+use Rattle.words_fetches.proofs.fetch.Statement.{statement}
+use Rattle.words_fetches.proofs.fetch.Tie as tie
 
 -- the register was fetched: what is left by whether the master acknowledged
 went-on : (c : ℕ) (w u : List ℕ) → Packed c w → Becomes c w u (fetched (partOf c) (coreIn (partOf c) w) (getD w 21 0)) → getD w 22 0 ≡ 4

@@ -1,4 +1,4 @@
--- `words_bus::byte_call`: each branch is one of the rule's. Assumes nothing.
+-- `words_bytes::byte_call`: each branch is one of the rule's. Assumes nothing.
 use borrow.Author.Needs.{needs}
 use mathlib.Core.Path.{ap}
 use native.Mathlib.Omega.{arith}
@@ -7,8 +7,8 @@ use Rattle.device_rules.specs.Device.{byteIn}
 use Rattle.device_rules.specs.declared.Answer.the-variants.{Ack, Nak}
 use Rattle.words_state.specs.Packed.{answerAt}
 use Rattle.words_state.proofs.Left.{went}
-use Rattle.words_bus.proofs.byte_call.Statement.{statement}
-use Rattle.words_bus.proofs.byte_call.Tie as tie
+use Rattle.words_bytes.proofs.byte_call.Statement.{statement}
+use Rattle.words_bytes.proofs.byte_call.Tie as tie
 
 returns : tie.Need-returns
 unfolding byteIn
