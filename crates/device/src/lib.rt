@@ -1,6 +1,6 @@
 // The device by value, of either part, as its callers have it: made, stepped and asked.
 ghost use mathlib.Core.Path.{_≡_};
-ghost use Prim.Native.Nat.{_<_};
+ghost use Prim.Native.Nat.{_*_, _<_};
 ghost use Rattle.map.specs.Map.{part24, part34, partOf, defaults};
 ghost use Rattle.words_images.specs.Images.{Packs};
 ghost use Rattle.device.specs.Held.{stateIn, Makes, Steps};
@@ -72,23 +72,25 @@ fn wide(byte: u8) -> u64
 
 impl Device {
     // the most writes that a plan may have
-    pub const WRITE_BOUND: usize = 16;
+    pub const WRITE_BOUND: usize = device_rooms::WRITE_BOUND;
 
     // and a plan of the sister
-    pub const WRITE_BOUND34: usize = 26;
+    pub const WRITE_BOUND34: usize = device_rooms::WRITE_BOUND34;
 
     // How many bytes a buffer has at least that has room for every plan.
     pub fn plan_room() -> usize
-        ensures { λ r. ⌜ r ≡ 32 ⌝ }
+        ensures room { λ r. ⌜ r ≡ 32 ⌝ }
+        ensures bound { λ r. ⟦Device::WRITE_BOUND⟧ .entry >>= λ b. ⌜ r ≡ 2 * b ⌝ }
     {
-        2 * Self::WRITE_BOUND
+        device_rooms::plan_room()
     }
 
     // And for every plan of the sister.
     pub fn plan_room34() -> usize
-        ensures { λ r. ⌜ r ≡ 52 ⌝ }
+        ensures room { λ r. ⌜ r ≡ 52 ⌝ }
+        ensures bound { λ r. ⟦Device::WRITE_BOUND34⟧ .entry >>= λ b. ⌜ r ≡ 2 * b ⌝ }
     {
-        Self::WRITE_BOUND34 * 2
+        device_rooms::plan_room34()
     }
 
     // The register file of the part after any reset.
