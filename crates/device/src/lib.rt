@@ -126,12 +126,7 @@ impl Device {
     {
         let refusal = device_making::refusal(part as u64, choice as u32, levels, number);
         let file = Self::file_at_reset(part);
-        let sets = Sets {
-            level: levels,
-            reference: levels,
-            held: 0,
-            edge: 0,
-        };
+        let sets = device_making::pins_at(levels);
         let device = Device {
             part,
             file,
