@@ -5,12 +5,12 @@ ghost use Rattle.map.specs.Map.{part24, part34, partOf, defaults};
 ghost use Rattle.words_images.specs.Images.{Packs};
 ghost use Rattle.device.specs.Held.{stateIn, Makes, Steps};
 ghost use Rattle.device.specs.Asked.{lowOf, highOf, lineOf, shownOf};
+use device_answers::Driven;
+use device_answers::Line;
+use device_answers::Shown;
 use device_rules::Answer;
-use device_rules::BAD_ARGUMENT;
 use device_rules::BAD_IMAGE;
-use device_rules::NONE;
 use device_rules::QUIET;
-use map::LAST_NUMBER;
 use pins::Sets;
 
 // The parts by their numbers: the one of 24 pins, and its sister of 34.
@@ -43,24 +43,6 @@ pub struct Stepped {
 pub struct Made {
     pub refusal: u8,
     pub device: Device,
-}
-
-// What a device drives, at one of the two levels: a refusal's number, 0 for none, and the pins, none where it was refused.
-pub struct Driven {
-    pub refusal: u8,
-    pub pins: u64,
-}
-
-// INT: a refusal's number, 0 for none, and whether it is asserted.
-pub struct Line {
-    pub refusal: u8,
-    pub asserted: bool,
-}
-
-// The byte of a register: a refusal's number, 0 for none, and the byte, 0 where it was refused.
-pub struct Shown {
-    pub refusal: u8,
-    pub byte: u8,
 }
 
 // A byte of an image as the words have it.
@@ -221,17 +203,8 @@ impl Device {
         ensures { λ a. ⌜ a ≡ lowOf self ⌝ }
     {
         let mut words = [0u64; 28];
-        if !self.pack(&mut words) {
-            return Driven {
-                refusal: BAD_IMAGE,
-                pins: 0,
-            };
-        }
-        let pins = words_views::low(&words, map::pins_of(self.part as u64));
-        Driven {
-            refusal: NONE,
-            pins,
-        }
+        let fits = self.pack(&mut words);
+        device_answers::low(fits, &words, self.part as u64)
     }
 
     // The pins driven high.
@@ -239,35 +212,17 @@ impl Device {
         ensures { λ a. ⌜ a ≡ highOf self ⌝ }
     {
         let mut words = [0u64; 28];
-        if !self.pack(&mut words) {
-            return Driven {
-                refusal: BAD_IMAGE,
-                pins: 0,
-            };
-        }
-        let pins = words_views::high(&words);
-        Driven {
-            refusal: NONE,
-            pins,
-        }
+        let fits = self.pack(&mut words);
+        device_answers::high(fits, &words)
     }
 
-    // Whether INT is asserted. Refused it counts as asserted: nobody is to take a refusal for quiet.
+    // Whether INT is asserted; refused, it counts as asserted.
     pub fn int(self) -> Line
         ensures { λ a. ⌜ a ≡ lineOf self ⌝ }
     {
         let mut words = [0u64; 28];
-        if !self.pack(&mut words) {
-            return Line {
-                refusal: BAD_IMAGE,
-                asserted: true,
-            };
-        }
-        let asserted = words_views::int(&words);
-        Line {
-            refusal: NONE,
-            asserted,
-        }
+        let fits = self.pack(&mut words);
+        device_answers::int(fits, &words)
     }
 
     // The byte that a fetch of register n would show: input port bytes, status bytes and all others.
@@ -275,29 +230,7 @@ impl Device {
         ensures { λ a. ⌜ a ≡ shownOf self n ⌝ }
     {
         let mut words = [0u64; 28];
-        if !self.pack(&mut words) {
-            return Shown {
-                refusal: BAD_IMAGE,
-                byte: 0,
-            };
-        }
-        if LAST_NUMBER < n {
-            return Shown {
-                refusal: BAD_ARGUMENT,
-                byte: 0,
-            };
-        }
-        let row = words_tables::row_of(self.part as u64, n);
-        if row == 0 {
-            return Shown {
-                refusal: BAD_ARGUMENT,
-                byte: 0,
-            };
-        }
-        let byte = words_views::show(&words, row);
-        Shown {
-            refusal: NONE,
-            byte,
-        }
+        let fits = self.pack(&mut words);
+        device_answers::show(fits, &words, self.part as u64, n)
     }
 }
