@@ -1,12 +1,11 @@
 -- A device asked and stepped through the words that it was packed into; one that does not pack is a broken image. Assumes nothing.
 use mathlib.Core.Path.{_≡_, refl, sym, ap, ap₂, _∙_}
-use mathlib.Core.Bool.{Bool, true, false, cond, not, _&&_, _||_}
+use mathlib.Core.Bool.{Bool, true, false, cond, _&&_}
 use mathlib.Core.List.{List}
 use Prim.Native.Nat.{ℕ, _<_}
-use borrow.Author.Tests.{lt-ltb, le-ltb}
-use lib.Dec.{eqb, ltb}
-use Rattle.map.specs.Map.{Part, kindAt, code, reserved, partOf}
-use Rattle.map.specs.Map.Kind.{Reserved}
+use borrow.Author.Tests.{lt-ltb}
+use lib.Dec.{ltb}
+use Rattle.map.specs.Map.{partOf}
 use Rattle.device_rules.specs.Device.{State, out}
 use Rattle.device_rules.specs.Refusals.{imageFits, stepped}
 use Rattle.device_rules.specs.declared.Answer.the-variants.{Refused}
@@ -21,19 +20,13 @@ module _ {d : Device} {fits : Bool} {v w : List ℕ} (p : Packs (d .part) (held.
   pub no-image : fits ≡ false → fitsIn d ≡ false
   no-image e = sym (p .judged) ∙ e
 
-  pub its-image : fits ≡ true → fitsIn d ≡ true
-  its-image e = sym (p .judged) ∙ e
-
-  pub refused : {A : Type 0} (some none : A) → fits ≡ false → none ≡ cond (fitsIn d) some none
-  refused some none e = ap (λ (t : Bool). cond t some none) (sym (no-image e))
-
-  pub asked : {A : Type 0} (f : State → A) (none : A) → fits ≡ true → f (stateIn (partOf (d .part)) w) ≡ cond (fitsIn d) (f (held.stateIn d)) none
-  asked f none e = ap f (p .packed e .1) ∙ ap (λ (t : Bool). cond t (f (held.stateIn d)) none) (sym (its-image e))
-
--- a number over 7Fh counts as reserved
-pub over : (p : Part) (n : ℕ) → 127 < n → reserved p n ≡ true
-unfolding reserved
-over p n h = ap (λ (t : Bool). not t || eqb (code (kindAt p n)) (code Reserved)) (le-ltb n 128 h)
+  -- what the words answer is the image's answer, where a broken image's tells nothing of its state
+  pub asked : {A : Type 0} (answer : Bool → State → A) → ((s t : State) → answer false s ≡ answer false t) → {a : A} → a ≡ answer fits (stateIn (partOf (d .part)) w) → a ≡ answer (fitsIn d) (held.stateIn d)
+  asked answer alike e = e ∙ go fits refl ∙ ap (λ (t : Bool). answer t (held.stateIn d)) (p .judged)
+    where
+      go : (t : Bool) → fits ≡ t → answer t (stateIn (partOf (d .part)) w) ≡ answer t (held.stateIn d)
+      go true z = ap (answer true) (p .packed z .1)
+      go false z = alike _ _
 
 -- ---- steps
 -- a broken image, or a part that is none of the two, is refused with 3

@@ -1,16 +1,16 @@
 // The device by value, of either part, as its callers have it: made, stepped and asked.
 ghost use mathlib.Core.Path.{_≡_};
-ghost use Prim.Native.Nat.{_<_};
+ghost use Prim.Native.Nat.{_*_, _<_};
 ghost use Rattle.map.specs.Map.{part24, part34, partOf, defaults};
 ghost use Rattle.words_images.specs.Images.{Packs};
 ghost use Rattle.device.specs.Held.{stateIn, Makes, Steps};
 ghost use Rattle.device.specs.Asked.{lowOf, highOf, lineOf, shownOf};
+use device_answers::Driven;
+use device_answers::Line;
+use device_answers::Shown;
 use device_rules::Answer;
-use device_rules::BAD_ARGUMENT;
 use device_rules::BAD_IMAGE;
-use device_rules::NONE;
 use device_rules::QUIET;
-use map::LAST_NUMBER;
 use pins::Sets;
 
 // The parts by their numbers: the one of 24 pins, and its sister of 34.
@@ -45,24 +45,6 @@ pub struct Made {
     pub device: Device,
 }
 
-// What a device drives, at one of the two levels: a refusal's number, 0 for none, and the pins, none where it was refused.
-pub struct Driven {
-    pub refusal: u8,
-    pub pins: u64,
-}
-
-// INT: a refusal's number, 0 for none, and whether it is asserted.
-pub struct Line {
-    pub refusal: u8,
-    pub asserted: bool,
-}
-
-// The byte of a register: a refusal's number, 0 for none, and the byte, 0 where it was refused.
-pub struct Shown {
-    pub refusal: u8,
-    pub byte: u8,
-}
-
 // A byte of an image as the words have it.
 fn wide(byte: u8) -> u64
     ensures { λ r. ⌜ r ≡ byte ⌝ }
@@ -72,23 +54,25 @@ fn wide(byte: u8) -> u64
 
 impl Device {
     // the most writes that a plan may have
-    pub const WRITE_BOUND: usize = 16;
+    pub const WRITE_BOUND: usize = device_rooms::WRITE_BOUND;
 
     // and a plan of the sister
-    pub const WRITE_BOUND34: usize = 26;
+    pub const WRITE_BOUND34: usize = device_rooms::WRITE_BOUND34;
 
     // How many bytes a buffer has at least that has room for every plan.
     pub fn plan_room() -> usize
-        ensures { λ r. ⌜ r ≡ 32 ⌝ }
+        ensures room { λ r. ⌜ r ≡ 32 ⌝ }
+        ensures bound { λ r. ⟦Device::WRITE_BOUND⟧ .entry >>= λ b. ⌜ r ≡ 2 * b ⌝ }
     {
-        2 * Self::WRITE_BOUND
+        device_rooms::plan_room()
     }
 
     // And for every plan of the sister.
     pub fn plan_room34() -> usize
-        ensures { λ r. ⌜ r ≡ 52 ⌝ }
+        ensures room { λ r. ⌜ r ≡ 52 ⌝ }
+        ensures bound { λ r. ⟦Device::WRITE_BOUND34⟧ .entry >>= λ b. ⌜ r ≡ 2 * b ⌝ }
     {
-        Self::WRITE_BOUND34 * 2
+        device_rooms::plan_room34()
     }
 
     // The register file of the part after any reset.
@@ -124,12 +108,7 @@ impl Device {
     {
         let refusal = device_making::refusal(part as u64, choice as u32, levels, number);
         let file = Self::file_at_reset(part);
-        let sets = Sets {
-            level: levels,
-            reference: levels,
-            held: 0,
-            edge: 0,
-        };
+        let sets = device_making::pins_at(levels);
         let device = Device {
             part,
             file,
@@ -224,17 +203,8 @@ impl Device {
         ensures { λ a. ⌜ a ≡ lowOf self ⌝ }
     {
         let mut words = [0u64; 28];
-        if !self.pack(&mut words) {
-            return Driven {
-                refusal: BAD_IMAGE,
-                pins: 0,
-            };
-        }
-        let pins = words_views::low(&words, map::pins_of(self.part as u64));
-        Driven {
-            refusal: NONE,
-            pins,
-        }
+        let fits = self.pack(&mut words);
+        device_answers::low(fits, &words, self.part as u64)
     }
 
     // The pins driven high.
@@ -242,35 +212,17 @@ impl Device {
         ensures { λ a. ⌜ a ≡ highOf self ⌝ }
     {
         let mut words = [0u64; 28];
-        if !self.pack(&mut words) {
-            return Driven {
-                refusal: BAD_IMAGE,
-                pins: 0,
-            };
-        }
-        let pins = words_views::high(&words);
-        Driven {
-            refusal: NONE,
-            pins,
-        }
+        let fits = self.pack(&mut words);
+        device_answers::high(fits, &words)
     }
 
-    // Whether INT is asserted. Refused it counts as asserted: nobody is to take a refusal for quiet.
+    // Whether INT is asserted; refused, it counts as asserted.
     pub fn int(self) -> Line
         ensures { λ a. ⌜ a ≡ lineOf self ⌝ }
     {
         let mut words = [0u64; 28];
-        if !self.pack(&mut words) {
-            return Line {
-                refusal: BAD_IMAGE,
-                asserted: true,
-            };
-        }
-        let asserted = words_views::int(&words);
-        Line {
-            refusal: NONE,
-            asserted,
-        }
+        let fits = self.pack(&mut words);
+        device_answers::int(fits, &words)
     }
 
     // The byte that a fetch of register n would show: input port bytes, status bytes and all others.
@@ -278,29 +230,7 @@ impl Device {
         ensures { λ a. ⌜ a ≡ shownOf self n ⌝ }
     {
         let mut words = [0u64; 28];
-        if !self.pack(&mut words) {
-            return Shown {
-                refusal: BAD_IMAGE,
-                byte: 0,
-            };
-        }
-        if LAST_NUMBER < n {
-            return Shown {
-                refusal: BAD_ARGUMENT,
-                byte: 0,
-            };
-        }
-        let row = words_tables::row_of(self.part as u64, n);
-        if row == 0 {
-            return Shown {
-                refusal: BAD_ARGUMENT,
-                byte: 0,
-            };
-        }
-        let byte = words_views::show(&words, row);
-        Shown {
-            refusal: NONE,
-            byte,
-        }
+        let fits = self.pack(&mut words);
+        device_answers::show(fits, &words, self.part as u64, n)
     }
 }

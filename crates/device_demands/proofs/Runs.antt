@@ -18,10 +18,10 @@ use Rattle.device_rules.specs.Answers.{answerKind, refusalNumber}
 use Rattle.device_rules.specs.declared.Answer.{Answer}
 use Rattle.device_rules.specs.declared.Answer.the-variants.{Nothing, Ack, Nak, Byte, Refused}
 use Rattle.device_rules.specs.PowerOn.{powerOn}
+use Rattle.device_answers.specs.Questions.{driven, line}
 use Rattle.device.specs.Held.{stateIn, fitsIn, Makes}
 use Rattle.device.proofs.Asking.{ruled}
 use Rattle.device.specs.declared.Device.{Device}
-use Rattle.device.specs.Asked.{driven, line}
 use Rattle.device_demands.specs.Run.{Asked, seen, seenFrom, run, answers, Functions, making, Said, said, saidFrom, runWith, unrefused, Represented, Askable, Contracts}
 use Rattle.device_demands.proofs.Keeps.{WellFormed, image-of, stepped-keeps, power-on-fits}
 

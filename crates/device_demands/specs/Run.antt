@@ -11,13 +11,14 @@ use Rattle.device_rules.specs.Refusals.{stepped}
 use Rattle.device_rules.specs.PowerOn.{powerOn}
 use Rattle.device_rules.specs.declared.Answer.{Answer}
 use Rattle.device_rules.specs.declared.Answer.the-variants.{Nothing}
+use Rattle.device_answers.specs.Questions.{driven, line}
+use Rattle.device_answers.specs.declared.Driven.{Driven}
+use Rattle.device_answers.specs.declared.Line.{Line}
 use Rattle.device.specs.Held.{Makes, Steps}
-use Rattle.device.specs.Asked.{driven, line, lowOf, highOf, lineOf}
+use Rattle.device.specs.Asked.{lowOf, highOf, lineOf}
 use Rattle.device.specs.declared.Device.{Device}
 use Rattle.device.specs.declared.Made.{Made}
 use Rattle.device.specs.declared.Stepped.{Stepped}
-use Rattle.device.specs.declared.Driven.{Driven}
-use Rattle.device.specs.declared.Line.{Line}
 
 pub record Asked : Type 0 where
   pub kind : ℕ

@@ -1,11 +1,13 @@
-// What refuses to make a device, of either part: for whoever makes one, by value or on words.
+// Making a device, of either part: what refuses it, for whoever makes one, by value or on words; and the pins of one by value.
 ghost use mathlib.Core.Path.{_≡_};
-ghost use Rattle.map.specs.Map.{partOf};
-ghost use Rattle.device_rules.specs.PowerOn.{makingRefused};
+ghost use Prim.Native.Nat.{ℕ};
+ghost use Rattle.map.specs.Map.{Part, partOf};
+ghost use Rattle.device_rules.specs.PowerOn.{powerOn, makingRefused};
 use device_rules::BAD_ARGUMENT;
 use device_rules::LAST_CHOICE;
 use device_rules::LAST_ID;
 use device_rules::NONE;
+use pins::Sets;
 
 // What refuses to make a device of the part: its number, 0 for none.
 pub fn refusal(part: u64, choice: u32, levels: u64, number: u64) -> u8
@@ -21,4 +23,16 @@ pub fn refusal(part: u64, choice: u32, levels: u64, number: u64) -> u8
         return BAD_ARGUMENT;
     }
     NONE
+}
+
+// The pins at power-on: no event is held, each reference is at the present level.
+pub fn pins_at(levels: u64) -> Sets
+    ensures { λ x. ⌜ ((p : Part) (choice id : ℕ) → x ≡ powerOn p choice levels id .regs .sets) ⌝ }
+{
+    Sets {
+        level: levels,
+        reference: levels,
+        held: 0,
+        edge: 0,
+    }
 }
