@@ -1,5 +1,5 @@
 // Events one after another, on words that are lent and known to be packed, until one is refused.
-ghost use Prim.Native.Nat.{ℕ, _+_, _*_, _≤_};
+ghost use Prim.Native.Nat.{ℕ, _*_, _≤_};
 ghost use lib.ListN.{length, getD};
 ghost use Rattle.map.specs.Map.{partOf};
 ghost use Rattle.words_rows.specs.Rows.{Tabled};

@@ -1,5 +1,4 @@
 // An event of a burst, which comes as bytes, taken on words that are lent.
-ghost use mathlib.Core.Path.{_≡_};
 ghost use Prim.Native.Nat.{ℕ, _+_, _*_, _≤_};
 ghost use lib.ListN.{length, getD};
 ghost use Rattle.map.specs.Map.{partOf};
