@@ -1,6 +1,6 @@
 // Whether words are the packing of a well-formed image, as refusal 3 asks.
 ghost use mathlib.Core.Path.{_≡_};
-ghost use mathlib.Core.Bool.{true, false};
+ghost use mathlib.Core.Bool.{true};
 ghost use Rattle.words_state.specs.Packed.{Packed, Judged};
 use map::DEBOUNCE_COUNT24;
 use map::DEBOUNCE_COUNT34;
@@ -45,23 +45,9 @@ pub fn judged(words: &[u64; 28], part: u64) -> u32
     }
 }
 
-// Whether a row is a register's.
-fn is_row(row: u32) -> bool
-    ensures { λ r. ⌜ (r ≡ true → row ≡ 0 → ⊥) × (r ≡ false → row ≡ 0) ⌝ }
-{
-    if row == 0 {
-        return false;
-    }
-    true
-}
-
 // Whether the words are the packing of a well-formed image of the part.
 pub fn fits(words: &[u64; 28], part: u64) -> bool
     ensures { λ r. ⌜ (r ≡ true → Packed part (now (words .entry))) × (Packed part (now (words .entry)) → r ≡ true) ⌝ }
 {
-    match part {
-        0 => is_row(judged24(words)),
-        1 => is_row(judged34(words)),
-        _ => false,
-    }
+    judged(words, part) != 0
 }

@@ -18,22 +18,6 @@ use Rattle.map.proofs.ByNumber.{kind-is}
 use Rattle.map.proofs.Onward.{onward-known}
 use Rattle.words_rows.specs.Rows.{ruleAt, rowAt, bareAt, wordIn, Numbered, Known}
 
--- n is none of the numbers below k, as a `match` of one number an arm says it
-abbrev Apart : ℕ → ℕ → Type 0
-Apart n zero = Unit {0}
-Apart n (suc k) = Apart n k × (n ≡ k → ⊥)
-
-pub none-left : (k n : ℕ) → n < k → Apart n k → ⊥
-none-left zero n h a = omega arith
-none-left (suc k) n h a = last k n h (a .1) (λ l. none-left k n l (a .0))
-  where
-    last : (k n : ℕ) → n < suc k → (n ≡ k → ⊥) → (n < k → ⊥) → ⊥
-    last k n h z f = go (eqb n k) refl
-      where
-        go : (b : Bool) → eqb n k ≡ b → ⊥
-        go true e = z (eqb-true n k e)
-        go false e = f (omega (arith, eqb-false n k e))
-
 record Rows (p : Part) : Type 0 where
   pub rules : (n : ℕ) → n < 128 → bitAnd (rowAt p n) 15 ≡ ruleAt p n
   pub words : (n : ℕ) → n < 128 → bitAnd (rowAt p n / 2 ^ 4) 31 ≡ slotAt p n
@@ -92,6 +76,34 @@ rows34 = record {
 rows : (part : ℕ) → Rows (partOf part)
 rows zero = rows24
 rows (suc part) = rows34
+
+-- ---- a `match` with an arm for each register
+-- n is none of the registers below k, as what is left of such a `match` says it
+abbrev Besides : Bool → Type 0 → Type 0 → Type 0
+Besides true before here = before
+Besides false before here = before × here
+
+abbrev Unnamed : (p : Part) (n : ℕ) → ℕ → Type 0
+Unnamed p n zero = Unit {0}
+Unnamed p n (suc k) = Besides (reserved p k) (Unnamed p n k) (n ≡ k → ⊥)
+
+-- at k itself, or below
+unnamed-last : (p : Part) (k n : ℕ) → n < suc k → (n < k → Unnamed p n k → reserved p n ≡ true) → (t : Bool) → reserved p k ≡ t → Besides t (Unnamed p n k) (n ≡ k → ⊥)
+    → reserved p n ≡ true
+unnamed-last p k n h below true e u = go (eqb n k) refl
+  where
+    go : (t : Bool) → eqb n k ≡ t → reserved p n ≡ true
+    go true q = ap (reserved p) (eqb-true n k q) ∙ e
+    go false q = below (omega (arith, eqb-false n k q)) u
+unnamed-last p k n h below false e u = below (omega (arith, u .1)) (u .0)
+
+unnamed-reserved : (p : Part) (k n : ℕ) → n < k → Unnamed p n k → reserved p n ≡ true
+unnamed-reserved p zero n h u = absurd (omega arith)
+unnamed-reserved p (suc k) n h u = unnamed-last p k n h (unnamed-reserved p k n) (reserved p k) refl u
+
+-- so it is reserved, and its row is 0
+pub reserved-row : (part n : ℕ) → n < 128 → Unnamed (partOf part) n 128 → 0 ≡ rowAt (partOf part) n
+reserved-row part n h u = sym (eqb-true (rowAt (partOf part) n) 0 (rows part .zeros n h ∙ unnamed-reserved (partOf part) 128 n h u))
 
 -- a row out of a part's two tables
 pub whole-row : (part n : ℕ) → n < 128 → bitOr (bareAt (partOf part) n) (successor (partOf part) n * 2 ^ 15 % 2 ^ 32) ≡ rowAt (partOf part) n
