@@ -1,13 +1,11 @@
 // START and STOP on words that are packed: for either part.
 ghost use mathlib.Core.Path.{_≡_};
-ghost use Prim.Native.Nat.{ℕ, _-_, _^_, _<_};
+ghost use Prim.Native.Nat.{ℕ, _-_, _^_};
 ghost use lib.ListN.{getD};
 ghost use Rattle.map.specs.Map.{partOf};
 ghost use Rattle.device_rules.specs.Device.{step as stepOf};
 ghost use Rattle.device_rules.specs.Device.Event.{Start, Stop};
-ghost use Rattle.device_rules.specs.Refusals.{stepped};
 ghost use Rattle.words_state.specs.Packed.{stateIn, answerAt, Packed, Leaves};
-use device_rules::START;
 use words::BUS;
 use words_state::ARMED;
 use words_state::IDLE;
@@ -40,16 +38,4 @@ pub fn stop(words: &mut [u64; 28], pins: u64) -> u32
         return NOTHING;
     }
     words_state::goes(words, IDLE, NOTHING)
-}
-
-// START or STOP, which ask for no row.
-pub fn condition(words: &mut [u64; 28], pins: u64, kind: u32) -> u32
-    requires { ⌜ Packed (getD (now words) 27 0) (now words) × (pins ≡ 2 ^ partOf (getD (now words) 27 0) .width - 1) × (kind < 2) ⌝ }
-    ensures { λ a. ⌜ ((c arg : ℕ) → Packed c (now (words .entry)) → pins ≡ 2 ^ partOf c .width - 1
-        → Leaves c (now (words .exit)) (answerAt a) (stepped (partOf c) (stateIn (partOf c) (now (words .entry))) kind arg)) ⌝ }
-{
-    if kind == START {
-        return start(words);
-    }
-    stop(words, pins)
 }

@@ -1,14 +1,16 @@
 // The device on words that are lent: made; stepped with every refusal, whatever they hold, and where they are known to be packed without the test of refusal 3.
 ghost use mathlib.Core.Path.{_≡_};
-ghost use Prim.Native.Nat.{_^_, _<_};
+ghost use Prim.Native.Nat.{ℕ, _-_, _^_, _<_};
 ghost use lib.ListN.{getD};
 ghost use Rattle.map.specs.Map.{partOf};
 ghost use Rattle.device_rules.specs.PowerOn.{powerOn};
+ghost use Rattle.device_rules.specs.Refusals.{stepped};
 ghost use Rattle.words_rows.specs.Rows.{Tabled};
-ghost use Rattle.words_state.specs.Packed.{stateIn, answerAt, Packed, Steps};
+ghost use Rattle.words_state.specs.Packed.{stateIn, answerAt, Packed, Leaves, Steps};
 ghost use Rattle.words_device.specs.Named.{Named, Obeys};
 use device_rules::Answer;
 use device_rules::BYTE;
+use device_rules::START;
 use pins::Sets;
 use words::PART;
 use words::POINTER;
@@ -42,6 +44,18 @@ pub fn event(words: &mut [u64; 28], kind: u32, arg: u64) -> Answer
     words_state::answer(words_bus::event(words, map::pins_of(part), row, kind, arg))
 }
 
+// START or STOP, which ask for no row.
+fn condition(words: &mut [u64; 28], pins: u64, kind: u32) -> u32
+    requires { ⌜ Packed (getD (now words) 27 0) (now words) × (pins ≡ 2 ^ partOf (getD (now words) 27 0) .width - 1) × (kind < 2) ⌝ }
+    ensures { λ a. ⌜ ((c arg : ℕ) → Packed c (now (words .entry)) → pins ≡ 2 ^ partOf c .width - 1
+        → Leaves c (now (words .exit)) (answerAt a) (stepped (partOf c) (stateIn (partOf c) (now (words .entry))) kind arg)) ⌝ }
+{
+    if kind == START {
+        return words_conditions::start(words);
+    }
+    words_conditions::stop(words, pins)
+}
+
 // The same with the part's tables and its pins lent, its answer as a number: what a loop calls. START and STOP, three of ten events of a host's traffic, ask for no row.
 pub fn event_by(
     words: &mut [u64; 28],
@@ -55,7 +69,7 @@ pub fn event_by(
     ensures { λ a. ⌜ Obeys (now (words .entry)) (now (words .exit)) kind arg (answerAt a) ⌝ }
 {
     if kind < BYTE {
-        return words_conditions::condition(words, pins, kind);
+        return condition(words, pins, kind);
     }
     if words_command::is_command(&*words, kind) {
         let wanted = words_tables::row_in(rows, next, (arg % 128) as usize);

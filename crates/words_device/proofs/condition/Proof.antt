@@ -1,11 +1,11 @@
--- `words_conditions::condition`: START, or else STOP. Assumes nothing.
+-- `words_device::condition`: START, or else STOP. Assumes nothing.
 use borrow.Author.Needs.{needs}
 use native.Mathlib.Omega.{arith}
 use mathlib.Core.Path.{refl}
 use Rattle.words_state.proofs.Left.{by-rule}
 use Rattle.words_state.proofs.Judging.{taken}
-use Rattle.words_conditions.proofs.condition.Statement.{statement}
-use Rattle.words_conditions.proofs.condition.Tie as tie
+use Rattle.words_device.proofs.condition.Statement.{statement}
+use Rattle.words_device.proofs.condition.Tie as tie
 
 returns : tie.Need-returns
 returns c =
