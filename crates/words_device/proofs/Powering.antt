@@ -10,7 +10,7 @@ use Rattle.device_rules.specs.declared.Answer.the-variants.{Nothing}
 use Rattle.device_rules.specs.PowerOn.{powerOn}
 use Rattle.words.specs.Words.{withSets}
 use Rattle.words_state.specs.Packed.{Leaves}
-use Rattle.words_resets.specs.Resets.{resetWords}
+use Rattle.words_defaults.specs.Defaults.{resetWords}
 use Rattle.words_resets.proofs.Resetting.{fresh}
 
 module _ (part choice levels id : ℕ) (hp : part < 2) (hc : choice < 4) (hl : levels < 2 ^ partOf part .width) (hi : id < 2 ^ 24) where

@@ -20,7 +20,7 @@ pub fn power_on(words: &mut [u64; 28], part: u64, choice: u8, levels: u64, id: u
     requires { ⌜ (part < 2) × (choice < 4) × (levels < 2 ^ partOf part .width) × (id < 2 ^ 24) ⌝ }
     ensures { λ r. ⌜ Packed part (now (words .exit)) × (stateIn (partOf part) (now (words .exit)) ≡ powerOn (partOf part) choice levels id) ⌝ }
 {
-    words_resets::put_defaults(words, map::pins_of(part), choice as u64, id, part);
+    words_defaults::put_defaults(words, map::pins_of(part), choice as u64, id, part);
     let quiet = Sets {
         level: levels,
         reference: levels,

@@ -26,7 +26,7 @@ use Rattle.words.proofs.Fits.{fit-of-small}
 use Rattle.words.proofs.Holding.{holds-sets}
 use Rattle.words_state.specs.Packed.{stateIn, Packed, Leaves}
 use Rattle.words_state.proofs.Left.{by-rule}
-use Rattle.words_resets.specs.Resets.{resetWords}
+use Rattle.words_defaults.specs.Defaults.{resetWords}
 
 pub record Defaults (c choice id part : ℕ) : Type 0 where
   pub file : fileOf (partOf c) (resetWords (2 ^ partOf c .width - 1) choice id part) ≡ defaults (partOf c)

@@ -1,8 +1,8 @@
--- `words_resets::put_defaults`: zeros, and over them the words that a reset fills: the list computes. Assumes nothing.
+-- `words_defaults::put_defaults`: zeros, and over them the words that a reset fills: the list computes. Assumes nothing.
 use borrow.Author.Needs.{needs}
 use mathlib.Core.Path.{refl}
-use Rattle.words_resets.proofs.put_defaults.Statement.{statement}
-use Rattle.words_resets.proofs.put_defaults.Tie as tie
+use Rattle.words_defaults.proofs.put_defaults.Statement.{statement}
+use Rattle.words_defaults.proofs.put_defaults.Tie as tie
 
 returns : tie.Need-returns
 returns c = refl
