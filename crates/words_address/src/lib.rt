@@ -1,12 +1,10 @@
-// Address bytes, on words that are packed: ours, the general call, and those that ask for a Device ID; for either part.
+// Address bytes, on words that are packed: ours, the general call, and the one that asks for a Device ID; for either part.
 ghost use Prim.Native.Nat.{ℕ};
 ghost use lib.ListN.{getD};
 ghost use Rattle.map.specs.Map.{partOf};
-ghost use Rattle.device_rules.specs.Device.{addressed, byteIn};
-ghost use Rattle.device_rules.specs.Device.Bus.{Reopened};
+ghost use Rattle.device_rules.specs.Device.{addressed};
 ghost use Rattle.words_state.specs.Packed.{stateIn, answerAt, Packed, Leaves};
 use words::CHOICE;
-use words::PLACE;
 use words_state::ACK;
 use words_state::ASKING;
 use words_state::CALL;
@@ -14,12 +12,9 @@ use words_state::CHOSEN;
 use words_state::DEAF;
 use words_state::NAK;
 use words_state::SENDING;
-use words_state::TELLING;
 
-// The bytes that ask for a Device ID, and for its telling.
+// The byte that asks for a Device ID.
 const ASKS: u64 = 0xf8;
-
-const ASKS_TO_TELL: u8 = 0xf9;
 
 // An address byte: ours to write or to read, the general call, or the question for a Device ID.
 pub fn address(words: &mut [u64; 28], value: u8) -> u32
@@ -41,16 +36,4 @@ pub fn address(words: &mut [u64; 28], value: u8) -> u32
         return words_state::goes(words, ASKING, ACK);
     }
     words_state::goes(words, DEAF, NAK)
-}
-
-// A byte in Reopened: the telling begins at the first byte, or it is an address byte.
-pub fn asked_again(words: &mut [u64; 28], value: u8) -> u32
-    requires { ⌜ Packed (getD (now words) 27 0) (now words) ⌝ }
-    ensures { λ a. ⌜ ((c : ℕ) → Packed c (now (words .entry)) → Leaves c (now (words .exit)) (answerAt a) (byteIn (partOf c) Reopened (stateIn (partOf c) (now (words .entry))) value)) ⌝ }
-{
-    if value == ASKS_TO_TELL {
-        words[PLACE] = 0;
-        return words_state::goes(words, TELLING, ACK);
-    }
-    address(words, value)
 }

@@ -43,8 +43,8 @@ pub fn byte(words: &mut [u64; 28], row: u32, value: u8) -> u32
         FILLING => words_data::byte_filling(words, row, value),
         CALL => byte_call(words, value),
         IDLE => NAK,
-        ASKING => words_identity::asked(words, value),
-        REOPENED => words_address::asked_again(words, value),
+        ASKING => words_asking::asked(words, value),
+        REOPENED => words_asking::asked_again(words, value),
         _ => words_state::goes(words, DEAF, NAK),
     }
 }

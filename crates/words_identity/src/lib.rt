@@ -1,32 +1,14 @@
-// The Device ID on words that are packed: our byte in the question for it, and its telling.
+// The telling of a Device ID, on words that are packed: for either part.
 ghost use mathlib.Core.Path.{_≡_};
 ghost use Prim.Native.Nat.{ℕ, _<_};
 ghost use lib.ListN.{getD};
 ghost use Rattle.map.specs.Map.{partOf};
-ghost use Rattle.device_rules.specs.Device.{byteAt, nextPlace, byteIn, step as stepOf};
-ghost use Rattle.device_rules.specs.Device.Bus.{Asking};
+ghost use Rattle.device_rules.specs.Device.{byteAt, nextPlace, step as stepOf};
 ghost use Rattle.device_rules.specs.Device.Event.{ByteFetched};
 ghost use Rattle.words_state.specs.Packed.{idIn, stateIn, answerAt, Packed, Leaves};
-use words::CHOICE;
 use words::ID;
 use words::PLACE;
-use words_state::ACK;
 use words_state::DEAF;
-use words_state::NAK;
-use words_state::NAMED;
-
-// A byte in Asking: our byte, with either lowest bit.
-pub fn asked(words: &mut [u64; 28], value: u8) -> u32
-    requires { ⌜ Packed (getD (now words) 27 0) (now words) ⌝ }
-    ensures { λ a. ⌜ ((c : ℕ) → Packed c (now (words .entry)) → Leaves c (now (words .exit)) (answerAt a) (byteIn (partOf c) Asking (stateIn (partOf c) (now (words .entry))) value)) ⌝ }
-{
-    let address = 2 * (0x20 + words[CHOICE]);
-    let byte = value as u64;
-    if (byte == address) | (byte == address + 1) {
-        return words_state::goes(words, NAMED, ACK);
-    }
-    words_state::goes(words, DEAF, NAK)
-}
 
 // The byte of the Device ID that is told next.
 fn byte_told(words: &[u64; 28]) -> u8

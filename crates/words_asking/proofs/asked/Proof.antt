@@ -1,4 +1,4 @@
--- `words_identity::asked`: our byte with either lowest bit, or none. Assumes nothing.
+-- `words_asking::asked`: our byte with either lowest bit, or none. Assumes nothing.
 use borrow.Author.Needs.{needs}
 use mathlib.Core.Path.{ap}
 use native.Mathlib.Omega.{arith}
@@ -6,8 +6,8 @@ use Rattle.device_rules.specs.Device.{byteIn}
 use Rattle.device_rules.specs.declared.Answer.the-variants.{Ack, Nak}
 use Rattle.words_state.specs.Packed.{answerAt}
 use Rattle.words_state.proofs.Left.{went}
-use Rattle.words_identity.proofs.asked.Statement.{statement}
-use Rattle.words_identity.proofs.asked.Tie as tie
+use Rattle.words_asking.proofs.asked.Statement.{statement}
+use Rattle.words_asking.proofs.asked.Tie as tie
 
 returns : tie.Need-returns
 unfolding byteIn

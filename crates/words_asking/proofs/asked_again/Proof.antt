@@ -1,4 +1,4 @@
--- `words_address::asked_again`: the telling begins, or it is an address byte. Assumes nothing.
+-- `words_asking::asked_again`: the telling begins, or it is an address byte. Assumes nothing.
 use borrow.Author.Needs.{needs}
 use mathlib.Core.Path.{ap, _∙_}
 use native.Mathlib.Omega.{arith}
@@ -9,8 +9,8 @@ use Rattle.device_rules.specs.Device.Bus.{Telling}
 use Rattle.device_rules.specs.declared.Answer.the-variants.{Ack}
 use Rattle.words_state.specs.Packed.{answerAt}
 use Rattle.words_state.proofs.Left.{packed-place, state-place, went, by-rule}
-use Rattle.words_address.proofs.asked_again.Statement.{statement}
-use Rattle.words_address.proofs.asked_again.Tie as tie
+use Rattle.words_asking.proofs.asked_again.Statement.{statement}
+use Rattle.words_asking.proofs.asked_again.Tie as tie
 
 returns : tie.Need-returns
 unfolding byteIn
