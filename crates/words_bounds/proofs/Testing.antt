@@ -4,16 +4,14 @@ use mathlib.Core.List.{List}
 use Prim.Native.Nat.{ℕ, _/_, _%_, _^_, _<_, _≤_}
 use native.Mathlib.Nat.{div-add-mod', mod-lt}
 use native.Mathlib.Omega.{arith}
-use lib.Bits.{bitOr, bitXor, xor-self, xor-add-and, and-le-l, and-le-r}
+use lib.Bits.{bitOr, bitXor, xor-self}
 use lib.ListN.{getD}
 use Rattle.map.specs.Map.{partOf}
 use Rattle.registers.specs.Interrupt.{workedOut}
 use Rattle.words.specs.Words.{coreIn, interruptIn, Fit}
+use Rattle.words_faults.proofs.Alike.{xor-zero}
 use Rattle.words_spare.proofs.Laws.{or-zero, zero-or}
 use Rattle.words_state.specs.Packed.{Bounded}
-
-xor-zero : (a b : ℕ) → bitXor a b ≡ 0 → a ≡ b
-xor-zero a b e = omega (arith, e, xor-add-and a b, and-le-l a b, and-le-r a b)
 
 -- ---- the test
 module _ (c : ℕ) (w : List ℕ) (spare stale : ℕ) where
@@ -62,12 +60,3 @@ module _ (c : ℕ) (w : List ℕ) (spare stale : ℕ) where
       let i : getD w 25 0 / 16777216 ≡ 0 = omega (arith, div-add-mod' (getD w 25 0) 16777216) in
       zero-or (zero-or (zero-or (fits .1 (b .fit)) (zero-or (zero-or (zero-or p r) m) i)) (says (b .fit) .1 (b .right)))
       (ap (bitXor (getD w 27 0)) (sym (b .part-is)) ∙ xor-self (getD w 27 0))
-
--- ---- what is kept, compared bit by bit with what is worked out
-pub stale-zero : (a b x y : ℕ) → bitOr (bitXor a x) (bitXor b y) ≡ 0 → (a ≡ x) × (b ≡ y)
-stale-zero a b x y e =
-    let both = or-zero (bitXor a x) (bitXor b y) e in
-    (xor-zero a x (both .0), xor-zero b y (both .1))
-
-pub zero-stale : (a b : ℕ) {x y : ℕ} → a ≡ x → b ≡ y → bitOr (bitXor a x) (bitXor b y) ≡ 0
-zero-stale a b e f = zero-or (ap (bitXor a) (sym e) ∙ xor-self a) (ap (bitXor b) (sym f) ∙ xor-self b)

@@ -1,4 +1,4 @@
--- `words_bounds::stale`: what is kept against what is worked out (`status-worked`, `line-worked`). Assumes nothing.
+-- `words_faults::stale`: what is kept against what is worked out (`status-worked`, `line-worked`). Assumes nothing.
 use borrow.Author.Needs.{needs}
 use mathlib.Core.Path.{sym, ap, _∙_}
 use lib.ListN.{getD}
@@ -7,9 +7,9 @@ use Rattle.registers.specs.Interrupt.{Interrupt}
 use Rattle.registers.proofs.Kept.{same-interrupt}
 use Rattle.words.proofs.Sound.{sound}
 use Rattle.words.proofs.Seen.{status-worked, line-worked}
-use Rattle.words_bounds.proofs.Testing.{stale-zero, zero-stale}
-use Rattle.words_bounds.proofs.stale.Statement.{statement}
-use Rattle.words_bounds.proofs.stale.Tie as tie
+use Rattle.words_faults.proofs.Alike.{stale-zero, zero-stale}
+use Rattle.words_faults.proofs.stale.Statement.{statement}
+use Rattle.words_faults.proofs.stale.Tie as tie
 
 returns : tie.Need-returns
 returns c =
