@@ -165,7 +165,7 @@ pub extern "C" fn ghixramel_plan(
     ensures refused { λ r. ⌜ (eqb r 0 ≡ false → now (writes .exit) ≡ now (writes .entry)) ⌝ }
 {
     let planned = planner::plan(start, goal, buffer);
-    host_words::tell_plan(planned, writes)
+    host_answers::tell_plan(planned, writes)
 }
 
 // A bench's answers against those of the devices that its events make, of either part: the verdict, and where the part of the answers lies that is handed back and how long it is.
@@ -327,5 +327,5 @@ pub extern "C" fn ghixramel34_plan(
     ensures refused { λ r. ⌜ (eqb r 0 ≡ false → now (writes .exit) ≡ now (writes .entry)) ⌝ }
 {
     let planned = planner::plan34(start, goal, buffer);
-    host_words::tell_plan(planned, writes)
+    host_answers::tell_plan(planned, writes)
 }

@@ -32,7 +32,7 @@ pub fn step(words: &mut [u64; 28], part: u64, kind: u32, argument: u64, answer: 
     ensures { λ r. ⌜ Told part (now (words .entry)) kind argument r (now (words .exit)) (now (answer .entry)) (now (answer .exit)) ⌝ }
 {
     let number = words_device::step(words, part, kind, argument);
-    host_words::tell(number, answer)
+    host_answers::tell(number, answer)
 }
 
 // The pins driven low and high.
@@ -53,7 +53,7 @@ pub fn int(words: &[u64; 28], part: u64, asserted: &mut [u8; 1]) -> u32
     ensures { λ r. ⌜ Seen part (now (words .entry)) intOf r (now (asserted .entry)) (now (asserted .exit)) ⌝ }
 {
     if words_fits::fits(words, part) {
-        *asserted = [host_words::one_if(words_views::int(words))];
+        *asserted = [host_answers::one_if(words_views::int(words))];
         return DONE;
     }
     BAD_IMAGE

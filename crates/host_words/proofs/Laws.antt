@@ -25,7 +25,6 @@ use Rattle.planner_promise.specs.Promise.{refusalOf, countOf, Promise}
 use Rattle.planner_promise.specs.declared.Planned.{Planned}
 use Rattle.words.specs.Words.{fileOf, setsIn, interruptIn}
 use Rattle.words_state.specs.Packed.{stateIn, Packed, Steps}
-use Rattle.words_images.specs.Images.{Packs}
 use Rattle.host_words.specs.Host.{toldAs, Told, Made, Seen, Shown, FromImage, ToImage, writesAfter, plannedAs, countIn}
 
 -- ---- one event
@@ -99,11 +98,12 @@ above p n h = simp (le-ltb n 128 h)
 judged-by : (c : ℕ) → c < 2 → {fits t : Bool} → fits ≡ (ltb c 2 && t) → fits ≡ t
 judged-by c hc {t = t} e = e ∙ ap (λ (b : Bool). b && t) (lt-ltb c 2 hc)
 
-pub from-image : (c : ℕ) → c < 2 → (image : State) (w w' : List ℕ) → Packs c image true w w' → FromImage c image 0 w w'
-from-image c hc image w w' p = record { packed = λ h. (refl, p .packed refl .0, p .packed refl .1); broken = λ h. clash (imageFits (partOf c) image) (sym (judged-by c hc (p .judged))) h }
+module _ (c : ℕ) (hc : c < 2) (image : State) (w w' : List ℕ) where
+  pub from-image : true ≡ (ltb c 2 && imageFits (partOf c) image) → Packed c w' × (stateIn (partOf c) w' ≡ image) → FromImage c image 0 w w'
+  from-image judged packed = record { packed = λ h. (refl, packed .0, packed .1); broken = λ h. clash (imageFits (partOf c) image) (sym (judged-by c hc judged)) h }
 
-pub from-none : (c : ℕ) → c < 2 → (image : State) (w w' : List ℕ) → Packs c image false w w' → FromImage c image 3 w w'
-from-none c hc image w w' p = record { packed = λ h. clash (imageFits (partOf c) image) h (sym (judged-by c hc (p .judged))); broken = λ h. (refl, p .unchanged refl) }
+  pub from-none : false ≡ (ltb c 2 && imageFits (partOf c) image) → w' ≡ w → FromImage c image 3 w w'
+  from-none judged same = record { packed = λ h. clash (imageFits (partOf c) image) h (sym (judged-by c hc judged)); broken = λ h. (refl, same) }
 
 module _ (c : ℕ) (w pins file rest : List ℕ) where
   pub to-image : (file' : List ℕ) → Packed c w → file' ≡ fileOf (partOf c) w

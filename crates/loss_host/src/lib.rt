@@ -13,5 +13,5 @@ pub fn step(
     ensures { λ r. ⌜ MarkedTold part (now (words .entry)) (now (marks .entry)) kind argument r (now (words .exit)) (now (marks .exit)) (now (answer .entry)) (now (answer .exit)) ⌝ }
 {
     let number = loss_marks::step(words, marks, part, kind, argument);
-    host_words::tell(number, answer)
+    host_answers::tell(number, answer)
 }

@@ -1,8 +1,8 @@
--- `host_words::tell_plan`: by the planner's two answers. Assumes nothing.
+-- `host_answers::tell_plan`: by the planner's two answers. Assumes nothing.
 use borrow.Author.Needs.{needs}
 use mathlib.Core.Path.{refl}
-use Rattle.host_words.proofs.tell_plan.Statement.{statement}
-use Rattle.host_words.proofs.tell_plan.Tie as tie
+use Rattle.host_answers.proofs.tell_plan.Statement.{statement}
+use Rattle.host_answers.proofs.tell_plan.Tie as tie
 
 returns : tie.Need-returns
 returns c = rw (c .before .before .planned .given .1) (refl, refl)

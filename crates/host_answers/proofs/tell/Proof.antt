@@ -1,4 +1,4 @@
--- `host_words::tell`: by whether the number is a refusal's (`refused-told`, `answered-told`). Assumes nothing.
+-- `host_answers::tell`: by whether the number is a refusal's (`refused-told`, `answered-told`). Assumes nothing.
 use borrow.Author.Needs.{needs}
 use mathlib.Core.Path.{_≡_, sym, ap, _∙_}
 use mathlib.Core.Bool.{Bool, false, cond}
@@ -10,9 +10,9 @@ use lib.Dec.{eqb}
 use Rattle.device_rules.specs.Answers.{answerByte, refusalNumber}
 use Rattle.words_state.specs.Packed.{answerAt}
 use Rattle.words_state.proofs.Told.{byte-is, byte-none, refused-told, answered-told}
 use Rattle.host_words.specs.Host.{toldAs}
-use Rattle.host_words.proofs.tell.Statement.{statement}
-use Rattle.host_words.proofs.tell.Tie as tie
+use Rattle.host_answers.proofs.tell.Statement.{statement}
+use Rattle.host_answers.proofs.tell.Tie as tie
 
 -- what is told of an answer whose kind is k
 abbrev telling : (n : ℕ) (lent : List ℕ) → ℕ → List ℕ

@@ -1,7 +1,7 @@
--- `host_words::one_if`: by its two values. Assumes nothing.
+-- `host_answers::one_if`: by its two values. Assumes nothing.
 use mathlib.Core.Path.{refl}
-use Rattle.host_words.proofs.one_if.Statement.{statement}
-use Rattle.host_words.proofs.one_if.Tie as tie
+use Rattle.host_answers.proofs.one_if.Statement.{statement}
+use Rattle.host_answers.proofs.one_if.Tie as tie
 
 returns : tie.Need-returns
 returns c = rw (c .if1 .taken) refl
