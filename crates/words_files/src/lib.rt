@@ -1,12 +1,12 @@
-// The register file out of words, words out of a register file, and whether they stand for one.
+// The register file out of words, and whether they stand for one.
 ghost use mathlib.Core.Path.{_≡_};
 ghost use mathlib.Core.Bool.{true};
 ghost use lib.ListN.{length};
-ghost use Rattle.map.specs.Map.{fileFits, partOf};
-ghost use Rattle.words.specs.Words.{fileOf, Fit};
+ghost use Rattle.map.specs.Map.{partOf};
+ghost use Rattle.words.specs.Words.{fileOf};
 
 // A file has 128 entries.
-fn counted(file: &[u8; 128]) -> usize
+pub fn counted(file: &[u8; 128]) -> usize
     ensures { λ r. ⌜ length (now (file .entry)) ≡ 128 ⌝ }
 {
     let all: &[u8] = file;
@@ -21,21 +21,6 @@ pub fn to_file(words: &[u64; 28], part: u64, file: &mut [u8; 128])
     let mut n: u8 = 0;
     while n < 128 {
         file[n as usize] = words_entries::entry(words, words_tables::row_of(part, n));
-        n += 1;
-    }
-}
-
-// The words that stand for a register file.
-pub fn from_file(words: &mut [u64; 28], part: u64, file: &[u8; 128])
-    ensures { λ r. ⌜ Fit (partOf part) (now (words .exit))
-        × (fileFits (partOf part) (now (file .entry)) ≡ true → fileOf (partOf part) (now (words .exit)) ≡ now (file .entry)) ⌝ }
-{
-    let _count = counted(file);
-    *words = [0; 28];
-    let mut n: u8 = 0;
-    while n < 128 {
-        let v = file[n as usize];
-        words_writes::store(words, words_tables::row_of(part, n), v);
         n += 1;
     }
 }

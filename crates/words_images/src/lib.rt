@@ -38,7 +38,7 @@ pub fn pack(
     ensures { λ fits. ⌜ Packs part (state (core (now (file .entry)) sets) (interrupt status line) pointer mode bus choice (identity number place)) fits (now (words .entry)) (now (words .exit)) ⌝ }
 {
     let mut fresh = [0u64; 28];
-    words_files::from_file(&mut fresh, part, file);
+    words_stored::from_file(&mut fresh, part, file);
     words::put_sets(&mut fresh, sets);
     fresh[POINTER] = pointer;
     fresh[BUS] = bus;

@@ -1,12 +1,11 @@
 // A register written, on words that are lent: its row says where its bits go and what they do to the pins.
 ghost use mathlib.Core.Path.{_≡_};
 ghost use mathlib.Core.Bool.{false};
-ghost use Prim.Native.Nat.{ℕ, _<_};
+ghost use Prim.Native.Nat.{ℕ};
 ghost use Rattle.map.specs.Map.{reserved, partOf};
-ghost use Rattle.registers.specs.Registers.{core, written};
-ghost use Rattle.words.specs.Words.{storedIn, setsIn, coreIn, Fit, Holds};
-ghost use Rattle.words_rows.specs.Rows.{ruleAt, rowAt, Numbered, Known};
-use words::RISING;
+ghost use Rattle.registers.specs.Registers.{written};
+ghost use Rattle.words.specs.Words.{coreIn, Fit, Holds};
+ghost use Rattle.words_rows.specs.Rows.{ruleAt, rowAt, Known};
 use words::STRENGTH_LOW;
 
 // An edge register, whose fields are kept in two words.
@@ -50,38 +49,5 @@ pub fn write_register(words: &mut [u64; 28], row: u32, value: u8)
         // read only
         0..=words_rows::INPUT_STATUS => {}
         _ => words_moves::put(words, words_rows::word(row), here, on),
-    }
-}
-
-// A byte stored, and no more: what a register file holds goes into the words so.
-pub fn store(words: &mut [u64; 28], row: u32, value: u8)
-    requires { ⌜ Numbered row (now words) ⌝ }
-    ensures { λ r. ⌜ ((part n : ℕ) → n < 128 → row ≡ rowAt (partOf part) n → Fit (partOf part) (now (words .entry))
-        → Holds (partOf part) (now (words .entry)) (now (words .exit)) (core (storedIn (partOf part) (now (words .entry)) n value) (setsIn (now (words .entry))))) ⌝ }
-{
-    let rule = words_rows::rule(row);
-    match rule {
-        words_rows::EDGE => words_moves::put_pair(
-            words,
-            RISING,
-            words_bits::field_pins(row),
-            words_bits::low_bits(row, value),
-            words_bits::high_bits(row, value),
-        ),
-        words_rows::DRIVE_STRENGTH => words_moves::put_pair(
-            words,
-            STRENGTH_LOW,
-            words_bits::field_pins(row),
-            words_bits::low_bits(row, value),
-            words_bits::high_bits(row, value),
-        ),
-        words_rows::CLEAR => {}
-        0..=words_rows::INPUT_STATUS => {}
-        _ => words_moves::put(
-            words,
-            words_rows::word(row),
-            words_bits::port_pins(row),
-            words_bits::port_bits(row, value),
-        ),
     }
 }

@@ -1,4 +1,4 @@
--- `words_files::from_file`: the entries below n are taken (`Taken`). Assumes nothing.
+-- `words_stored::from_file`: the entries below n are taken (`Taken`). Assumes nothing.
 use borrow.Author.Needs.{needs}
 use mathlib.Core.Path.{refl, ap}
 use Prim.Native.Nat.{_-_}
@@ -6,8 +6,8 @@ use Rattle.map.specs.Map.{partOf}
 use Rattle.registers.specs.Registers.{Core}
 use Rattle.words.proofs.Sound.{sound}
 use Rattle.words.proofs.Images.{Taken, all-zero, taken-none, taken-more, taken-all}
-use Rattle.words_files.proofs.from_file.Statement.{statement}
-use Rattle.words_files.proofs.from_file.Tie as tie
+use Rattle.words_stored.proofs.from_file.Statement.{statement}
+use Rattle.words_stored.proofs.from_file.Tie as tie
 
 abbrev Inv-loop : tie.InvT-loop
 Inv-loop words₀ part file -count n₀ words n = Taken (partOf part) file words n

@@ -1,4 +1,4 @@
--- `words_writes::store`: by the rule, merged into one word or two, or nothing. Assumes nothing.
+-- `words_stored::store`: by the rule, merged into one word or two, or nothing. Assumes nothing.
 use borrow.Author.Needs.{needs}
 use mathlib.Core.Path.{refl, sym, ap, _∙_}
 use mathlib.Core.Bool.{Bool, not, _&&_}
@@ -11,9 +11,9 @@ use Rattle.map.specs.Map.Kind.{Edge}
 use Rattle.words.specs.Words.{paired}
 use Rattle.words.proofs.Sound.{sound}
 use Rattle.words_rows.proofs.Taken.{its-word, stored-by, paired-by, rule-strength, stored-rule, stored-known, numbered-inside}
 use Rattle.words_writes.proofs.Wrote.{byte-kept, pair-kept, nothing-kept}
-use Rattle.words_writes.proofs.store.Statement.{statement}
-use Rattle.words_writes.proofs.store.Tie as tie
+use Rattle.words_stored.proofs.store.Statement.{statement}
+use Rattle.words_stored.proofs.store.Tie as tie
 
 returns : tie.Need-returns
 returns c =
