@@ -74,7 +74,7 @@ pub fn int(fits: bool, words: &[u64; 28]) -> Line
             asserted: true,
         };
     }
-    let asserted = words_views::int(words);
+    let asserted = words_interrupt::int(words);
     Line {
         refusal: NONE,
         asserted,

@@ -53,7 +53,7 @@ pub fn int(words: &[u64; 28], part: u64, asserted: &mut [u8; 1]) -> u32
     ensures { λ r. ⌜ Seen part (now (words .entry)) intOf r (now (asserted .entry)) (now (asserted .exit)) ⌝ }
 {
     if words_fits::fits(words, part) {
-        *asserted = [host_answers::one_if(words_views::int(words))];
+        *asserted = [host_answers::one_if(words_interrupt::int(words))];
         return DONE;
     }
     BAD_IMAGE

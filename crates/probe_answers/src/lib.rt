@@ -36,7 +36,7 @@ fn put_answer(out: &mut [u8], at: usize, d: Device, answer: Answer) -> usize
     let part = d.part as u64;
     let mut words = [0u64; 28];
     let _fits = d.pack(&mut words);
-    let int = words_views::int(&words);
+    let int = words_interrupt::int(&words);
     let low = words_views::low(&words, map::pins_of(part));
     let high = words_views::high(&words);
     text_answers::put_answer(out, at, part, answer, int, low, high)

@@ -41,7 +41,7 @@ pub fn refresh(words: &[u64; 28], told: &mut [u64; 5], kept: &mut [u8; 22])
         words[PORT_KIND],
         words[PIN_KIND],
     ];
-    let int = words_views::int(words);
+    let int = words_interrupt::int(words);
     let low = words_views::low(words, map::pins_of(words[PART]));
     let high = words_views::high(words);
     text_answers::keep(kept, words[PART], int, low, high);

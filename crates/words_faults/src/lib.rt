@@ -28,6 +28,6 @@ pub fn stale(words: &[u64; 28]) -> u64
         × (interruptIn (now (words .entry)) ≡ workedOut (partOf c) (coreIn (partOf c) (now (words .entry))) → s ≡ 0)) ⌝ }
 {
     let status = words_pins::statuses(words);
-    let line = words_views::line_of(status);
+    let line = words_interrupt::line_of(status);
     (words[STATUS] ^ status) | (words[LINE] ^ line)
 }

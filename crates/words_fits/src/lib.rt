@@ -49,5 +49,9 @@ pub fn judged(words: &[u64; 28], part: u64) -> u32
 pub fn fits(words: &[u64; 28], part: u64) -> bool
     ensures { λ r. ⌜ (r ≡ true → Packed part (now (words .entry))) × (Packed part (now (words .entry)) → r ≡ true) ⌝ }
 {
-    judged(words, part) != 0
+    match part {
+        0 => judged24(words) != 0,
+        1 => judged34(words) != 0,
+        _ => false,
+    }
 }

@@ -16,7 +16,7 @@ pub fn write(words: &mut [u64; 28], row: u32, value: u8)
 {
     words_writes::write_register(words, row, value);
     if words_rows::rings(row) {
-        words_views::keep(words);
+        words_interrupt::keep(words);
     }
 }
 
@@ -28,7 +28,7 @@ pub fn settle(words: &mut [u64; 28], row: u32)
 {
     words_views::settle(words, row);
     if words_rows::rule(row) == words_rows::INPUT {
-        words_views::keep(words);
+        words_interrupt::keep(words);
     }
 }
 
@@ -39,5 +39,5 @@ pub fn set_levels(words: &mut [u64; 28], new: u64)
         → Becomes c (now (words .entry)) (now (words .exit)) (levelled (partOf c) (coreIn (partOf c) (now (words .entry))) new)) ⌝ }
 {
     words_views::set_levels(words, new);
-    words_views::keep(words);
+    words_interrupt::keep(words);
 }

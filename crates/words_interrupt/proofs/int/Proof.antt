@@ -1,10 +1,10 @@
--- `words_views::int`: the line that is kept right is INT's (`line-right`). Assumes nothing.
+-- `words_interrupt::int`: the line that is kept right is INT's (`line-right`). Assumes nothing.
 use borrow.Author.Needs.{needs}
 use Rattle.map.specs.Map.{partOf}
 use Rattle.words.specs.Words.{coreIn, interruptIn}
 use Rattle.registers.proofs.Kept.{line-right}
-use Rattle.words_views.proofs.int.Statement.{statement}
-use Rattle.words_views.proofs.int.Tie as tie
+use Rattle.words_interrupt.proofs.int.Statement.{statement}
+use Rattle.words_interrupt.proofs.int.Tie as tie
 
 returns : tie.Need-returns
 returns c =

@@ -1,10 +1,10 @@
--- `words_views::line_of`: asserted is 0, quiet is 1. Assumes nothing.
+-- `words_interrupt::line_of`: asserted is 0, quiet is 1. Assumes nothing.
 use borrow.Author.Needs.{needs}
 use mathlib.Core.Path.{sym, ap, _∙_}
 use mathlib.Core.Bool.{Bool, cond}
 use Prim.Native.Nat.{ℕ}
-use Rattle.words_views.proofs.line_of.Statement.{statement}
-use Rattle.words_views.proofs.line_of.Tie as tie
+use Rattle.words_interrupt.proofs.line_of.Statement.{statement}
+use Rattle.words_interrupt.proofs.line_of.Tie as tie
 
 returns : tie.Need-returns
 returns c = λ w h. sym (ap (λ (b : Bool). cond {A = ℕ} b 0 1) (sym (c .before .int-asserted .ensures w h) ∙ c .if1 .taken))

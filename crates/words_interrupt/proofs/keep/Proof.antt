@@ -1,4 +1,4 @@
--- `words_views::keep`: the status set of the pins (`status-worked`), and its line (`line-worked`). Assumes nothing.
+-- `words_interrupt::keep`: the status set of the pins (`status-worked`), and its line (`line-worked`). Assumes nothing.
 use borrow.Author.Needs.{needs}
 use mathlib.Core.Path.{ap₂}
 use Prim.Native.Nat.{ℕ}
@@ -6,8 +6,8 @@ use lib.ListN.{set}
 use Rattle.map.specs.Map.{partOf}
 use Rattle.words.proofs.Sound.{sound}
 use Rattle.words.proofs.Seen.{status-worked, line-worked}
-use Rattle.words_views.proofs.keep.Statement.{statement}
-use Rattle.words_views.proofs.keep.Tie as tie
+use Rattle.words_interrupt.proofs.keep.Statement.{statement}
+use Rattle.words_interrupt.proofs.keep.Tie as tie
 
 returns : tie.Need-returns
 returns c =
