@@ -98,7 +98,7 @@ pub fn show(fits: bool, words: &[u64; 28], part: u64, n: u8) -> Shown
             byte: 0,
         };
     }
-    let row = words_tables::row_of(part, n);
+    let row = words_tables::row_of(part, n as u64);
     if row == 0 {
         return Shown {
             refusal: BAD_ARGUMENT,

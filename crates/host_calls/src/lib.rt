@@ -69,7 +69,7 @@ pub fn show(words: &[u64; 28], part: u64, number: u32, shown: &mut [u8; 1]) -> u
     if LAST_NUMBER < number {
         return BAD_ARGUMENT;
     }
-    let row = words_tables::row_of(part, (number % 128) as u8);
+    let row = words_tables::row_of(part, number as u64);
     if row == 0 {
         return BAD_ARGUMENT;
     }

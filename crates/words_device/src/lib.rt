@@ -37,10 +37,10 @@ pub fn event(words: &mut [u64; 28], kind: u32, arg: u64) -> Answer
 {
     let part = words[PART];
     if words_command::is_command(&*words, kind) {
-        let wanted = words_tables::row_of(part, (arg % 128) as u8);
+        let wanted = words_tables::row_of(part, arg % 128);
         return words_state::answer(words_command::command(words, wanted, arg));
     }
-    let row = words_tables::row_of(part, (words[POINTER] % 128) as u8);
+    let row = words_tables::row_of(part, words[POINTER]);
     words_state::answer(words_bus::event(words, map::pins_of(part), row, kind, arg))
 }
 
@@ -88,7 +88,7 @@ pub fn step(words: &mut [u64; 28], part: u64, kind: u32, arg: u64) -> u32
         return words_state::WRONG_IMAGE;
     }
     if words_command::is_command(&*words, kind) {
-        let wanted = words_tables::row_of(part, (arg % 128) as u8);
+        let wanted = words_tables::row_of(part, arg % 128);
         return words_command::command(words, wanted, arg);
     }
     words_bus::event(words, map::pins_of(part), row, kind, arg)

@@ -18,7 +18,7 @@ pub fn to_file(words: &[u64; 28], part: u64, file: &mut [u8; 128])
     ensures { λ r. ⌜ now (file .exit) ≡ fileOf (partOf part) (now (words .entry)) ⌝ }
 {
     let _count = counted(&*file);
-    let mut n: u8 = 0;
+    let mut n: u64 = 0;
     while n < 128 {
         file[n as usize] = words_entries::entry(words, words_tables::row_of(part, n));
         n += 1;
@@ -31,7 +31,7 @@ pub fn stand_for(words: &[u64; 28], part: u64, file: &[u8; 128]) -> bool
         × (fileOf (partOf part) (now (words .entry)) ≡ now (file .entry) → t ≡ true) ⌝ }
 {
     let _count = counted(file);
-    let mut n: u8 = 0;
+    let mut n: u64 = 0;
     while n < 128 {
         if words_entries::entry(words, words_tables::row_of(part, n)) != file[n as usize] {
             return false;

@@ -2,7 +2,7 @@
 use mathlib.Core.Path.{_≡_, refl}
 use mathlib.Core.Bool.{Bool, true, false}
 use mathlib.Core.List.{List}
-use Prim.Native.Nat.{ℕ, zero, suc, _%_, _<_}
+use Prim.Native.Nat.{ℕ, zero, suc, _<_}
 use native.Mathlib.Omega.{arith}
 use lib.ListN.{getD}
 use Rattle.bits.proofs.Decide.{clash}
@@ -11,7 +11,7 @@ use Rattle.words.specs.Words.{wideOf}
 use Rattle.words_rows.specs.Rows.{rowAt}
 use Rattle.words_spare.specs.Spare.{Limits}
 use Rattle.words_state.specs.Packed.{Judged, Bounded}
-use Rattle.words_state.proofs.Judging.{bounded-of, row-there, packed-of, no-row}
+use Rattle.words_state.proofs.Judging.{bounded-of, packed-of, no-row}
 
 pub limits24 : Limits 0 0xff_ffff 0x7 0xffff 0xff
 unfolding wideOf
@@ -36,11 +36,11 @@ module _ (c : ℕ) (hc : c < 2) (w : List ℕ) (t : Bool) (test : (t ≡ true �
     broken = λ q k. clash t (test .1 (bounded-of c w k)) e;
   }
 
-  pub judged-in : t ≡ true → (row : ℕ) → row ≡ rowAt (partOf c) (getD w 21 0 % 128) → Judged c w row
+  pub judged-in : t ≡ true → (row : ℕ) → row ≡ rowAt (partOf c) (getD w 21 0) → Judged c w row
   judged-in e row q =
       let b = test .0 e in
       record {
         packed = packed-of c hc w b row q;
-        row-is = λ z. row-there c hc w b row q;
+        row-is = λ z. q;
         broken = no-row c hc w b row q;
       }

@@ -20,7 +20,7 @@ fn judged24(words: &[u64; 28]) -> u32
     if !words_bounds::bounded(words, 0, spare) {
         return 0;
     }
-    words_rows24::row24((words[POINTER] % 128) as u8)
+    words_rows24::row24(words[POINTER])
 }
 
 // And of its sister. One function for both, with the limits as arguments, is a call of six of them in every step.
@@ -31,7 +31,7 @@ fn judged34(words: &[u64; 28]) -> u32
     if !words_bounds::bounded(words, 1, spare) {
         return 0;
     }
-    words_rows34::row34((words[POINTER] % 128) as u8)
+    words_rows34::row34(words[POINTER])
 }
 
 // The same of the part of that number: there is no third.

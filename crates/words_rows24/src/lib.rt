@@ -5,7 +5,7 @@ ghost use Rattle.map.specs.Map.{part24};
 ghost use Rattle.words_rows.specs.Rows.{rowAt};
 
 // The rows of the 24-pin part.
-pub fn row24(n: u8) -> u32
+pub fn row24(n: u64) -> u32
     requires { ⌜ n < 128 ⌝ }
     ensures { λ r. ⌜ r ≡ rowAt part24 n ⌝ }
 {

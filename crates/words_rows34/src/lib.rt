@@ -5,7 +5,7 @@ ghost use Rattle.map.specs.Map.{part34};
 ghost use Rattle.words_rows.specs.Rows.{rowAt};
 
 // The rows of the sister.
-pub fn row34(n: u8) -> u32
+pub fn row34(n: u64) -> u32
     requires { ⌜ n < 128 ⌝ }
     ensures { λ r. ⌜ r ≡ rowAt part34 n ⌝ }
 {

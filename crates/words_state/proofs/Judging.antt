@@ -3,7 +3,6 @@ use mathlib.Core.Path.{_≡_, refl, sym, ap, _∙_}
 use mathlib.Core.Bool.{Bool, true, false, cond}
 use mathlib.Core.List.{List}
 use Prim.Native.Nat.{ℕ, zero, suc, _+_, _-_, _/_, _%_, _^_, _<_, _≤_}
-use native.Mathlib.Nat.{mod-eq-of-lt}
 use native.Mathlib.Omega.{arith}
 use borrow.Author.Tests.{eq-eqb, ne-eqb, lt-ltb, ltb-true, ltb-false}
 use lib.Dec.{eqb, ltb, leb}
@@ -216,16 +215,13 @@ bounded-of c w k = record {
   part-is = k .part-is;
 }
 
-module _ (c : ℕ) (hc : c < 2) (w : List ℕ) (b : Bounded c w) (row : ℕ) (e : row ≡ rowAt (partOf c) (getD w 21 0 % 128)) where
-  pub row-there : row ≡ rowAt (partOf c) (getD w 21 0)
-  row-there = let q : getD w 21 0 % 128 ≡ getD w 21 0 = mod-eq-of-lt (b .pointer-small) in e ∙ ap (rowAt (partOf c)) q
-
+module _ (c : ℕ) (hc : c < 2) (w : List ℕ) (b : Bounded c w) (row : ℕ) (e : row ≡ rowAt (partOf c) (getD w 21 0)) where
   pub packed-of : (row ≡ 0 → ⊥) → Packed c w
   packed-of z = record {
     known-part = hc;
     fit = b .fit;
     right = b .right;
-    pointer-known = sym (row-zero row c (getD w 21 0) (b .pointer-small) row-there) ∙ ne-eqb row 0 z;
+    pointer-known = sym (row-zero row c (getD w 21 0) (b .pointer-small) e) ∙ ne-eqb row 0 z;
     mode-small = b .mode-small;
     bus-small = b .bus-small;
     choice-small = b .choice-small;
@@ -235,4 +231,4 @@ module _ (c : ℕ) (hc : c < 2) (w : List ℕ) (b : Bounded c w) (row : ℕ) (e 
   }
 
   pub no-row : row ≡ 0 → Packed c w → ⊥
-  no-row z k = clash (eqb row 0) (eq-eqb row 0 z) (row-zero row c (getD w 21 0) (b .pointer-small) row-there ∙ k .pointer-known)
+  no-row z k = clash (eqb row 0) (eq-eqb row 0 z) (row-zero row c (getD w 21 0) (b .pointer-small) e ∙ k .pointer-known)

@@ -49,7 +49,7 @@ pub fn from_file(words: &mut [u64; 28], part: u64, file: &[u8; 128])
 {
     let _count = words_files::counted(file);
     *words = [0; 28];
-    let mut n: u8 = 0;
+    let mut n: u64 = 0;
     while n < 128 {
         let v = file[n as usize];
         store(words, words_tables::row_of(part, n), v);

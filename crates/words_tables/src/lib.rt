@@ -296,7 +296,7 @@ pub fn row_in(rows: &[u32; 128], next: &[u8; 128], number: usize) -> u32
 }
 
 // The row of a part that is given by its number.
-pub fn row_of(part: u64, n: u8) -> u32
+pub fn row_of(part: u64, n: u64) -> u32
     requires { ⌜ n < 128 ⌝ }
     ensures { λ r. ⌜ r ≡ rowAt (partOf part) n ⌝ }
 {

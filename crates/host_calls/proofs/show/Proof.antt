@@ -2,21 +2,14 @@
 use borrow.Author.Needs.{needs}
 use mathlib.Core.Path.{_≡_, sym, ap, _∙_}
 use mathlib.Core.List.{[], _∷_}
-use Prim.Native.Nat.{ℕ, _%_, _<_}
+use Prim.Native.Nat.{ℕ, _<_}
 use borrow.Author.Tests.{eq-eqb, ne-eqb, not-true, not-false}
-use native.Mathlib.Nat.{mod-eq-of-lt}
 use native.Mathlib.Omega.{arith}
 use Rattle.bits.proofs.Decide.{clash}
-use Rattle.map.specs.Map.{partOf}
-use Rattle.words_rows.specs.Rows.{rowAt}
 use Rattle.words_rows.proofs.Taken.{row-zero, word-there}
 use Rattle.host_words.proofs.Laws.{shown-here, no-register, not-shown, above}
 use Rattle.host_calls.proofs.show.Statement.{statement}
 use Rattle.host_calls.proofs.show.Tie as tie
-
--- the row that was looked up is the register's
-row-of : (part row n : ℕ) → n < 128 → row ≡ rowAt (partOf part) (n % 128) → row ≡ rowAt (partOf part) n
-row-of part row n h e = let q : n % 128 ≡ n = mod-eq-of-lt h in e ∙ ap (rowAt (partOf part)) q
 
 returns : tie.Need-returns
 returns c = not-shown _ _ _ _ (λ k. clash _ (c .before .fits2 .ensures .1 k) (not-true _ (c .if1 .taken)))
@@ -34,7 +27,7 @@ returns-3 c =
     let part = fits .before .args .part in
     let small : n < 128 = omega (arith, looked .before .if2 .left) in
     no-register _ _ _ _ (fits .fits2 .ensures .0 (not-false _ (looked .before .before .if1 .left)))
-    (sym (row-zero _ part n small (row-of part _ n small (looked .row-of .ensures))) ∙ eq-eqb _ 0 (c .if3 .taken))
+    (sym (row-zero _ part n small (looked .row-of .ensures)) ∙ eq-eqb _ 0 (c .if3 .taken))
 
 show-requires : tie.Need-show-requires
 show-requires c κs =
@@ -42,7 +35,7 @@ show-requires c κs =
     let n = looked .before .before .before .before .args .number in
     let part = looked .before .before .before .before .args .part in
     let small : n < 128 = omega (arith, looked .before .if2 .left) in
-    omega (arith, word-there _ part n small (row-of part _ n small (looked .row-of .ensures)))
+    omega (arith, word-there _ part n small (looked .row-of .ensures))
 
 returns-4 : tie.Need-returns-4
 returns-4 c =
@@ -52,10 +45,10 @@ returns-4 c =
     let n = fits .before .args .number in
     let part = fits .before .args .part in
     let small : n < 128 = omega (arith, looked .before .if2 .left) in
-    let e = row-of part _ n small (looked .row-of .ensures) in
+    let e = looked .row-of .ensures in
     let k = fits .fits2 .ensures .0 (not-false _ (looked .before .before .if1 .left)) in
     let known = sym (row-zero _ part n small e) ∙ ne-eqb _ 0 (view .before .if3 .left) in
     shown-here _ _ _ _ _ k known (ap (λ (b : ℕ). b ∷ []) (view .show .ensures part n known e (k .fit)))
 
 pub show-spec : {M : Type 1} → statement M
-show-spec = tie.close (tie.spec (λ c κs. search needs) returns returns-2 (λ c. search needs) (λ c κs. search needs) returns-3 show-requires returns-4)
+show-spec = tie.close (tie.spec (λ c κs. search needs) returns returns-2 (λ c κs. search needs) returns-3 show-requires returns-4)

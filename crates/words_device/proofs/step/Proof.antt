@@ -70,7 +70,6 @@ step-spec =
     (λ c κs. search needs)
     returns
     (λ c κs. search needs)
-    (λ c. search needs)
     (λ c κs. search needs)
     command-requires
     returns-2

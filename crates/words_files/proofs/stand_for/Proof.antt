@@ -65,7 +65,6 @@ stand-for-spec =
     (λ c κs. search needs)
     entry-requires
     (λ c. search needs)
-    (λ c. search needs)
     returns
     (λ c. search needs)
     (λ c. search needs)

@@ -52,6 +52,5 @@ to-file-spec =
     (λ c. search needs)
     (λ c. search needs)
     (λ c. search needs)
-    (λ c. search needs)
     loop-again
     returns)

@@ -57,7 +57,6 @@ from-file-spec =
     (λ c κs. search needs)
     loop-holds
     (λ c. search needs)
-    (λ c. search needs)
     (λ c κs. search needs)
     store-requires
     (λ c. search needs)
