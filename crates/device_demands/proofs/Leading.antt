@@ -1,5 +1,5 @@
 -- Asking, Named and Reopened are led to by the question's own steps alone: F8h, our byte, START. So the acknowledged F9h stands at its end. Assumes nothing.
-use mathlib.Core.Path.{_≡_, refl, ap, ap₂, _∙_}
+use mathlib.Core.Path.{_≡_, refl, ap, ap₂}
 use mathlib.Core.Bool.{Bool, true, false, cond, _&&_, _||_}
 use Prim.Native.Nat.{ℕ, zero, suc, _+_, _/_, _%_}
 use borrow.Author.Tests.{eq-eqb}

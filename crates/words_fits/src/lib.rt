@@ -45,7 +45,7 @@ pub fn judged(words: &[u64; 28], part: u64) -> u32
     }
 }
 
-// Whether the words are the packing of a well-formed image of the part.
+// Whether the words are the packing of a well-formed image of the part. By `judged`, with a second caller, every step would call that.
 pub fn fits(words: &[u64; 28], part: u64) -> bool
     ensures { λ r. ⌜ (r ≡ true → Packed part (now (words .entry))) × (Packed part (now (words .entry)) → r ≡ true) ⌝ }
 {

@@ -1,5 +1,5 @@
 -- `map::onward_of`: the first part's step, or the sister's. Assumes nothing.
-use mathlib.Core.Path.{_≡_, sym, ap, _∙_}
+use mathlib.Core.Path.{sym, ap, _∙_}
 use Prim.Native.Nat.{ℕ}
 use Rattle.map.specs.Map.{Part, partOf, reserved, onward}
 use Rattle.map.proofs.Parts.{sister}
