@@ -10,48 +10,24 @@ use Rattle.map.specs.Map.{partOf}
 use Rattle.map.specs.Map.Kind.{Edge}
 use Rattle.words.specs.Words.{paired}
 use Rattle.words.proofs.Sound.{sound}
-use Rattle.words_rows.proofs.Taken.{its-word, stored-by, paired-by, rule-strength, stored-rule, stored-known, numbered-inside}
-use Rattle.words_writes.proofs.Wrote.{byte-kept, pair-kept, nothing-kept}
+use Rattle.words_rows.proofs.Taken.{its-word, stored-by, rule-strength, stored-rule, stored-known, numbered-inside}
+use Rattle.words_writes.proofs.Wrote.{byte-kept, nothing-kept}
 use Rattle.words_stored.proofs.store.Statement.{statement}
 use Rattle.words_stored.proofs.store.Tie as tie
 
 returns : tie.Need-returns
 returns c =
     λ part n hn e fit.
-    let b = c .before .before .before .before .before .before in
-    let start = b .before in
-    let a = start .args in
-    let p = partOf part in
-    let w = a .words .now in
-    let v = a .value in
-    let hv = start .fits .value .fits in
-    let er = b .rule .ensures part n hn e in
-    let r = c .before .before .before .before .before .match .keys1 in
-    let two = paired-by part n _ hn er 8 r in
-    let st = stored-by part n _ hn er 8 r in
-    let known = stored-known part n hn st in
-    rw (c .put-pair .ensures)
-    (pair-kept p (sound part) w fit n v hn hv st 8 (its-word part n _ hn er Edge r refl) refl _ _ _
-    (c .before .before .before .field-pins .ensures part n hn e two) (c .before .before .low-bits .ensures part n known e two) (c .before .high-bits .ensures part n known e two))
+    let er = c .before .before .before .rule .ensures part n hn e in
+    let r = c .before .before .match .keys1 in
+    c .store-fields .ensures part n hn e (stored-by part n _ hn er 8 r) (its-word part n _ hn er Edge r refl) refl fit
 
 returns-2 : tie.Need-returns-2
 returns-2 c =
     λ part n hn e fit.
-    let b = c .before .before .before .before .before .before in
-    let start = b .before in
-    let a = start .args in
-    let p = partOf part in
-    let w = a .words .now in
-    let v = a .value in
-    let hv = start .fits .value .fits in
-    let er = b .rule .ensures part n hn e in
-    let r = c .before .before .before .before .before .match .keys2 in
-    let two = paired-by part n _ hn er 14 r in
-    let st = stored-by part n _ hn er 14 r in
-    let known = stored-known part n hn st in
-    rw (c .put-pair2 .ensures)
-    (pair-kept p (sound part) w fit n v hn hv st 13 (sym (rule-strength part n hn (sym er ∙ r))) refl _ _ _
-    (c .before .before .before .field-pins2 .ensures part n hn e two) (c .before .before .low-bits2 .ensures part n known e two) (c .before .high-bits2 .ensures part n known e two))
+    let er = c .before .before .before .rule .ensures part n hn e in
+    let r = c .before .before .match .keys2 in
+    c .store-fields2 .ensures part n hn e (stored-by part n _ hn er 14 r) (sym (rule-strength part n hn (sym er ∙ r))) refl fit
 
 returns-3 : tie.Need-returns-3
 returns-3 c =
@@ -110,12 +86,6 @@ pub store-spec : {M : Type 1} → statement M
 store-spec =
     tie.close
     (tie.spec
-    (λ c κs. search needs)
-    (λ c κs. search needs)
-    (λ c κs. search needs)
-    (λ c κs. search needs)
-    (λ c κs. search needs)
-    (λ c κs. search needs)
     (λ c κs. search needs)
     (λ c κs. search needs)
     (λ c κs. search needs)
