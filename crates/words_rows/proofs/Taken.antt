@@ -78,11 +78,12 @@ rows zero = rows24
 rows (suc part) = rows34
 
 -- ---- a `match` with an arm for each register
--- n is none of the registers below k, as what is left of such a `match` says it
+-- one fact more, of a number that is not reserved
 abbrev Besides : Bool → Type 0 → Type 0 → Type 0
 Besides true before here = before
 Besides false before here = before × here
 
+-- n is none of the registers below k, as what is left of such a `match` says it
 abbrev Unnamed : (p : Part) (n : ℕ) → ℕ → Type 0
 Unnamed p n zero = Unit {0}
 Unnamed p n (suc k) = Besides (reserved p k) (Unnamed p n k) (n ≡ k → ⊥)
