@@ -1,4 +1,6 @@
 // The answers that a comparison reads, from a file of any length into bounded memory: enough to judge a line, or a whole line, which is shown.
+#![tactic(auto)]
+
 ghost use Rattle.std.specs.Prelude.{◌≡◌, ◌≤◌, length};
 
 use compare_pieces::ENOUGH;

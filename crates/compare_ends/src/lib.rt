@@ -1,4 +1,6 @@
 // A bench's answers against the device's: the end of the events.
+#![tactic(auto)]
+
 ghost use Rattle.std.specs.Prelude.{◌≡◌, ◌<◌, ◌≤◌, length};
 ghost use Rattle.trace_joins.specs.Readings.{reading_of};
 ghost use Rattle.compare_pieces.specs.Meeting.{Holding, Settles};

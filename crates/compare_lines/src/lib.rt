@@ -1,4 +1,6 @@
 // One line of a bench's answers against the line that is expected.
+#![tactic(auto)]
+
 ghost use Rattle.std.specs.Prelude.{◌<◌, length};
 ghost use Rattle.compare_lines.specs.Judging.{Judges};
 

@@ -1,4 +1,6 @@
 // A bench's answers against the device's: whole texts.
+#![tactic(auto)]
+
 ghost use Rattle.std.specs.Prelude.{◌≡◌, ◌≤◌, length, drop};
 ghost use Rattle.compare_lines.specs.Comparing.{compared, first_line};
 ghost use Rattle.compare_logs.specs.Finding.{FindsOn, LineAt, Finds};

@@ -1,4 +1,6 @@
 // A bench's answers against the device's: texts in pieces of any size.
+#![tactic(auto)]
+
 ghost use Rattle.std.specs.Prelude.{◌≡◌, true, false, ◌<◌, ◌≤◌, length};
 ghost use Rattle.trace_joins.specs.Readings.{reading_of};
 ghost use Rattle.compare_pieces.specs.Meeting.{Seen, Unless, Meets, Holding};

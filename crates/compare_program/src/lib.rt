@@ -1,4 +1,6 @@
 // The work of the program compare: two files of any length in bounded memory, the verdict on standard output, and for a person on standard error what is the matter with which line.
+#![tactic(auto)]
+
 ghost use Rattle.std.specs.Prelude.{◌≡◌, ◌≤◌, length};
 
 use compare_lines::SAME;

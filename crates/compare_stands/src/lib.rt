@@ -1,4 +1,6 @@
 // Where a comparison of two files stands: the events of a piece met with the answers that they expect, the end of the events, and the line that decides shown.
+#![tactic(auto)]
+
 ghost use Rattle.std.specs.Prelude.{◌≡◌, ◌+◌, ◌≤◌, length};
 ghost use Rattle.compare_pieces.specs.Meeting.{Holding};
 

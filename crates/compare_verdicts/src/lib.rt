@@ -1,4 +1,6 @@
 // What a comparison says: the verdict on standard output, and for a person on standard error what is the matter with which line.
+#![tactic(auto)]
+
 use compare_lines::{AGREES, DEPARTS, ENDS_EARLY};
 use libc::{STDERR_FILENO, STDOUT_FILENO};
 

@@ -1,4 +1,6 @@
 // The device by value, of either part, as its callers have it: made, stepped and asked.
+#![tactic(auto)]
+
 ghost use Rattle.std.specs.Prelude.{◌≡◌, ◌*◌, ◌<◌};
 ghost use Rattle.map.specs.Map.{part24, part34, part_of, defaults};
 ghost use Rattle.words_images.specs.Images.{Packs};

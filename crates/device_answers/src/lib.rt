@@ -1,4 +1,6 @@
 // What is answered to a question about an image, out of the words that it was packed into; `fits` is whether it may stand and was.
+#![tactic(auto)]
+
 ghost use Rattle.std.specs.Prelude.{◌≡◌, true, ℕ};
 ghost use Rattle.map.specs.Map.{part_of};
 ghost use Rattle.words_state.specs.Packed.{state_in, Packed};

@@ -1,4 +1,6 @@
 // Making a device, of either part: what refuses it, for whoever makes one, by value or on words; and the pins of one by value.
+#![tactic(auto)]
+
 ghost use Rattle.std.specs.Prelude.{◌≡◌, ℕ};
 ghost use Rattle.map.specs.Map.{Part, part_of};
 ghost use Rattle.device_rules.specs.PowerOn.{power_on, making_refused};

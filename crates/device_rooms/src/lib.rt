@@ -1,4 +1,6 @@
 // The room that a plan takes: the most writes that it may have, two bytes each.
+#![tactic(auto)]
+
 ghost use Rattle.std.specs.Prelude.{◌≡◌};
 
 // the most writes that a plan may have

@@ -1,5 +1,7 @@
 // The state beside the register file, and the answers.
 // Which images, events and makings are refused, by number, and what the others give: see specs/ for the definitions and proofs/ for their laws.
+#![tactic(auto)]
+
 use pins::Sets;
 
 #[derive(Drop)]

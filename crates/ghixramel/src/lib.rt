@@ -1,4 +1,6 @@
 // The C boundary: the state as words that the caller owns, an image as its arrays, answers and refusals as numbers. Each call is there for both parts.
+#![tactic(auto)]
+
 ghost use Rattle.std.specs.Prelude.{◌≡◌, false, [], ◌∷◌, eqb, length};
 ghost use Rattle.map.specs.Map.{part24, part34};
 ghost use Rattle.planner_promise.specs.Answer.{answer_of, Answers};

@@ -1,4 +1,6 @@
 // Answers as a C host has them: as numbers.
+#![tactic(auto)]
+
 ghost use Rattle.std.specs.Prelude.{◌≡◌, cond};
 ghost use Rattle.device_rules.specs.Answers.{refusal_number};
 ghost use Rattle.planner_promise.specs.Promise.{refusal_of};

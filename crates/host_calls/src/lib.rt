@@ -1,4 +1,6 @@
 // What a C call does, the part given as its number: each function stands behind two that are exported.
+#![tactic(auto)]
+
 ghost use Rattle.std.specs.Prelude.{◌<◌};
 ghost use Rattle.host_words.specs.Host.{Told, Made, Seen, Shown, drives_of, int_of};
 

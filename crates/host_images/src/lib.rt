@@ -1,4 +1,6 @@
 // An image as a C host has it, in arrays, to words and back, the part given as its number: each function stands behind two that are exported.
+#![tactic(auto)]
+
 ghost use Rattle.std.specs.Prelude.{◌<◌};
 ghost use Rattle.host_words.specs.Host.{image_in, FromImage, ToImage};
 

@@ -1,4 +1,6 @@
 // Many events in one call with the loss marks beside the device: the image and the marks are tested once.
+#![tactic(auto)]
+
 ghost use Rattle.loss_burst.specs.MarkedBurst.{MarkedBursts};
 
 use loss_marks::BROKEN;

@@ -1,4 +1,6 @@
 // A step with loss marks as a C host has it: its answer as numbers.
+#![tactic(auto)]
+
 ghost use Rattle.loss_host.specs.MarkedHost.{MarkedTold};
 
 // One event of the part.

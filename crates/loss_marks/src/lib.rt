@@ -1,4 +1,6 @@
 // A device with loss marks, in memory that is lent: its words, and beside them the marks.
+#![tactic(auto)]
+
 ghost use Rattle.std.specs.Prelude.{◌≡◌, ℕ, eqb};
 ghost use Rattle.map.specs.Map.{Part};
 ghost use Rattle.device_rules.specs.Refusals.{event_of};

@@ -1,4 +1,6 @@
 // What an event does to the loss marks.
+#![tactic(auto)]
+
 ghost use Rattle.std.specs.Prelude.{◌≡◌, true, ◌^◌, ◌<◌};
 ghost use Rattle.map.specs.Map.{Part};
 ghost use Rattle.loss_rules.specs.Marks.{noted, marks_fit};

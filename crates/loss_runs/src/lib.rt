@@ -1,4 +1,6 @@
 // Events one after another with the loss marks beside the device, until one is refused.
+#![tactic(auto)]
+
 ghost use Rattle.std.specs.Prelude.{◌≡◌, true, ℕ, ◌+◌, ◌*◌, ◌≤◌, length, get_or};
 ghost use Rattle.map.specs.Map.{part_of};
 ghost use Rattle.words_rows.specs.Rows.{Tabled};

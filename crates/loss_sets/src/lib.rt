@@ -1,4 +1,6 @@
 // The loss marks as two pin sets in memory that is lent: the pins that are marked and each pin's healthy level. How they are made, and which are a part's.
+#![tactic(auto)]
+
 ghost use Rattle.std.specs.Prelude.{◌≡◌, ◌-◌, ◌^◌, ◌≤◌};
 ghost use Rattle.map.specs.Map.{Part, part_of};
 ghost use Rattle.loss_rules.specs.Marks.{marks_fit};

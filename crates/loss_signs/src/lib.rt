@@ -1,4 +1,6 @@
 // Signing a loss mark off: what is asked of its pin, and the mark cleared.
+#![tactic(auto)]
+
 ghost use Rattle.std.specs.Prelude.{◌≡◌, true, ◌<◌, get_or};
 ghost use Rattle.bits.specs.Bits.{bit};
 ghost use Rattle.map.specs.Map.{Part};

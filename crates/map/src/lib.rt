@@ -1,4 +1,6 @@
 // The register map, part by part: see specs/Map.antt for the groups and proofs/ for what is worked out of them.
+#![tactic(auto)]
+
 ghost use Rattle.std.specs.Prelude.{◌≡◌, ◌-◌, ◌^◌, false};
 ghost use Rattle.map.specs.Map.{part24, part34, part_of, reserved, onward, Stepping};
 

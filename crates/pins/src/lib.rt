@@ -1,4 +1,5 @@
 // The rules of one pin, and of all pins at once: each word is a pin set, of as many pins as one likes up to 64.
+#![tactic(auto)]
 
 // What is stored of the pins.
 #[derive(Drop)]

@@ -1,4 +1,6 @@
 // How levels, a fetch and a reset move level, reference, held and edge, at all pins at once.
+#![tactic(auto)]
+
 ghost use Rattle.std.specs.Prelude.{◌≡◌, ℕ, ◌<◌, ◌^◌};
 ghost use Rattle.bits.specs.Bits.{bit};
 ghost use Rattle.pins.specs.Pin.{only, level_to, input_fetched, settle, reset};

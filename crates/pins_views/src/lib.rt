@@ -1,4 +1,6 @@
 // What all pins show: the drives, the input port bits, the status bits and INT.
+#![tactic(auto)]
+
 ghost use Rattle.std.specs.Prelude.{◌≡◌, Bool, ◌&&◌, ℕ, ◌<◌, ◌^◌};
 ghost use Rattle.bits.specs.Bits.{bit};
 ghost use Rattle.pins.specs.Pin.{drive, is_low, is_high, input_bit, status};

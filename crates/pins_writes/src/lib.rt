@@ -1,4 +1,6 @@
 // What register writes do to held and edge marks and references, at all pins at once.
+#![tactic(auto)]
+
 ghost use Rattle.std.specs.Prelude.{◌≡◌, ℕ};
 ghost use Rattle.bits.specs.Bits.{bit};
 ghost use Rattle.pins.specs.Pin.{only, clear_written, mask_written, edge_written, latch_written, configuration_written};

@@ -1,4 +1,6 @@
 // The service engineer's command for the 34-pin sister: plan34 START GOAL, or lines START<tab>GOAL on standard input.
+#![tactic(auto)]
+
 use device::PART34;
 
 fn main() {

@@ -1,4 +1,6 @@
 // The two fields of a line of settings, taken byte by byte, so that a line of any length needs no more memory than a short one.
+#![tactic(auto)]
+
 ghost use Rattle.std.specs.Prelude.{◌≡◌, List, [], ◌++◌, ℕ, ◌<◌};
 ghost use Rattle.plan_fields.specs.Asks.{byte_taken, digit_taken, with_digit, taken, Holds, Said};
 

@@ -1,4 +1,6 @@
 // The work of the programs plan and plan34: a start and a goal as two arguments or as lines on standard input; the part's plan or refusal on standard output.
+#![tactic(auto)]
+
 ghost use Rattle.plan_fields.specs.Asks.{Said};
 
 use device::PART24;

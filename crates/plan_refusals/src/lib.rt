@@ -1,4 +1,6 @@
 // What a line of settings is refused for before the planner is asked.
+#![tactic(auto)]
+
 ghost use Rattle.std.specs.Prelude.{◌≡◌, ◌≤◌, length};
 ghost use Rattle.map.specs.Map.{part_of};
 ghost use Rattle.planner_quiet.specs.Settings.{registers_of};

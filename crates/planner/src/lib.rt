@@ -1,4 +1,6 @@
 // The planner: from a start to a goal for the registers that set direction, output level and output kind, of either part.
+#![tactic(auto)]
+
 ghost use Rattle.std.specs.Prelude.{◌≡◌, cond, ◌&&◌, List, ℕ, ◌+◌, ◌*◌, ◌≤◌, ◌<◌, length};
 ghost use Rattle.bits.specs.Bits.{tabulate};
 ghost use Rattle.map.specs.Map.{part24, part34, part_of};

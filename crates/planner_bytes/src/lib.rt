@@ -1,4 +1,6 @@
 // What the rules say of each pin between start and goal, computed for all pins at once.
+#![tactic(auto)]
+
 ghost use Rattle.std.specs.Prelude.{◌≡◌, ℕ};
 ghost use Rattle.bits.specs.Bits.{bit};
 ghost use Rattle.planner_quiet.specs.Order.{stuck};

@@ -1,1 +1,2 @@
 // The planner's list over the bus: see specs/ and proofs/.
+#![tactic(auto)]

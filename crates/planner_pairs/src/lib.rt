@@ -1,4 +1,6 @@
 // Pairs of bytes at the front of a buffer: a register and what is written to it, where that changes what is there.
+#![tactic(auto)]
+
 ghost use Rattle.std.specs.Prelude.{List, ◌++◌, ℕ, ◌+◌, ◌*◌, ◌≤◌, length};
 ghost use Rattle.planner_pairs.specs.Pairs.{pair_of, Emitted};
 

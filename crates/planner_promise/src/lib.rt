@@ -1,5 +1,7 @@
 // What the planner promises, and what it answers.
 // The number of writes, or the number of the refusal.
+#![tactic(auto)]
+
 #[derive(Drop)]
 pub enum Planned {
     Writes(usize),

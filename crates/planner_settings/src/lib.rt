@@ -1,4 +1,6 @@
 // A setting of either part: whether it is well-formed, why there is no plan whatever the pins do, and its bytes as pin sets.
+#![tactic(auto)]
+
 ghost use Rattle.std.specs.Prelude.{◌≡◌, true, ◌+◌, ◌≤◌, length, get_or};
 ghost use Rattle.bits.specs.Bits.{join};
 ghost use Rattle.map.specs.Map.{part_of};

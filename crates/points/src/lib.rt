@@ -1,1 +1,2 @@
 // The bench points, one table: see specs/Bench.antt.
+#![tactic(auto)]

@@ -1,5 +1,7 @@
 // From the bytes of registers to pin sets, and back.
 // Registers of two bits a pin: four pins a byte.
+#![tactic(auto)]
+
 ghost use Rattle.std.specs.Prelude.{◌≡◌, ◌&&◌, [], ◌∷◌, ℕ, ◌+◌, ◌*◌, ◌/◌, ◌%◌, ◌<◌, ◌^◌};
 ghost use Rattle.bits.specs.Bits.{bit};
 ghost use Rattle.ports.specs.Ports.{in_port, port_bit, bytes_bit, byte_of, in_edge, rising_bit, falling_bit, evens_of};

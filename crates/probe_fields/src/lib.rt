@@ -1,4 +1,6 @@
 // The fields of a line of the probe program, read at their places.
+#![tactic(auto)]
+
 ghost use Rattle.std.specs.Prelude.{◌≡◌, false, cond, ◌+◌, ◌-◌, ◌^◌, ◌<◌, ◌≤◌, eqb, ltb, length, get_or};
 ghost use Rattle.text.specs.Text.{digit_of};
 ghost use Rattle.probe_fields.specs.Fields.{line_form, readable, number_at, bytes_at};

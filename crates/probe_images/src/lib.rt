@@ -1,6 +1,8 @@
 // State images as text, of either part: see specs/ for what a line says and what it is answered.
 // The step that a line of a probe program asks, on the image that it says.
 // A line of a probe program answered, whole or as it comes in pieces.
+#![tactic(auto)]
+
 ghost use Rattle.std.specs.Prelude.{◌≡◌, List, [], ◌++◌, ◌+◌, ◌≤◌, ◌<◌, ℕ, length};
 ghost use Rattle.map.specs.Map.{part_of};
 ghost use Rattle.device.specs.Held.{state_in};

@@ -1,4 +1,6 @@
 // The work of the probe programs: a state image of the part and an event a line on standard input; the answer and the image after it on standard output.
+#![tactic(auto)]
+
 ghost use Rattle.std.specs.Prelude.{◌≡◌, ◌<◌, ◌≤◌, length};
 
 use libc::STDOUT_FILENO;

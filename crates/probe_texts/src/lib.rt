@@ -1,4 +1,6 @@
 // The fields of an image, written, as a line of the probe program has them.
+#![tactic(auto)]
+
 ghost use Rattle.std.specs.Prelude.{◌≡◌, [], ◌∷◌, ◌+◌, ◌≤◌, length, take, drop};
 ghost use Rattle.text.specs.Text.{hex_text, Wrote};
 ghost use Rattle.probe_fields.specs.Fields.{widths};

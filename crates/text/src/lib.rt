@@ -1,4 +1,6 @@
 // Text as bytes: words and lowercase hex digits, read from slices and written into lent memory.
+#![tactic(auto)]
+
 ghost use Rattle.std.specs.Prelude.{◌≡◌, ◌+◌, ◌<◌, ◌≤◌, ◌/◌, ◌%◌, length};
 ghost use Rattle.text.specs.Text.{starts_with, is_word, digit_of, number_of, field_of, digit_byte, hex_text, Wrote};
 

@@ -1,4 +1,6 @@
 // The text that says an answer, and its line, written into lent memory: for either part.
+#![tactic(auto)]
+
 ghost use Rattle.std.specs.Prelude.{◌≡◌, Bool, cond, [], ◌∷◌, ◌++◌, ℕ, ◌+◌, ◌≤◌, length};
 ghost use Rattle.map.specs.Map.{part_of};
 ghost use Rattle.text.specs.Text.{Wrote};

@@ -1,4 +1,6 @@
 // Whether a text begins with a word, eight bytes at a time.
+#![tactic(auto)]
+
 ghost use Rattle.std.specs.Prelude.{◌≡◌, ◌+◌, ◌^◌, ◌<◌, ◌≤◌, length};
 ghost use Rattle.text.specs.Text.{starts_with};
 ghost use Rattle.text_begins.specs.Eights.{four_at, eight_at};

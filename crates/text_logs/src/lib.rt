@@ -1,4 +1,6 @@
 // Logs, which are answered line by line and come in pieces, whatever answers a line: see specs/ for the definitions and proofs/ for their laws.
+#![tactic(auto)]
+
 ghost use Rattle.std.specs.Prelude.{◌≡◌, ◌++◌, ◌≤◌, length, take};
 ghost use Rattle.text_logs.specs.Pieces.{overlaid};
 

@@ -1,4 +1,6 @@
 // Texts that come in pieces: where a line ends, and what is kept of one that has begun.
+#![tactic(auto)]
+
 ghost use Rattle.std.specs.Prelude.{◌≡◌, ◌+◌, ◌≤◌, min, length, drop};
 ghost use Rattle.text_pieces.specs.Pieces.{newline_at, First, Kept};
 

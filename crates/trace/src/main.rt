@@ -1,4 +1,6 @@
 // The trace program: a log of events on standard input, an answer for each line on standard output.
+#![tactic(auto)]
+
 use libc::STDOUT_FILENO;
 
 fn write_header() {

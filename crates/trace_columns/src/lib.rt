@@ -1,4 +1,6 @@
 // The text of the columns, which few events change: kept beside the words with what it was told from, and written anew where one of these words changed.
+#![tactic(auto)]
+
 ghost use Rattle.std.specs.Prelude.{◌≡◌, true};
 ghost use Rattle.words_device.specs.Named.{Named};
 ghost use Rattle.trace_columns.specs.Columns.{Told, Fresh};

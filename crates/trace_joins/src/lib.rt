@@ -1,4 +1,6 @@
 // A line that ends: one that lies whole in its piece, or the last part of one that has begun, joined with what is held of it.
+#![tactic(auto)]
+
 ghost use Rattle.std.specs.Prelude.{◌≡◌, ◌+◌, ◌≤◌, length};
 ghost use Rattle.trace_session.specs.Tracing.{Kept, Says, Beside};
 ghost use Rattle.text_logs.specs.Pieces.{grown, overlaid, held_at_end};

@@ -1,4 +1,6 @@
 // A line of a log, read: the part of the device that there is says how many digits pin levels have.
+#![tactic(auto)]
+
 ghost use Rattle.std.specs.Prelude.{◌≡◌, ◌≤◌, length, drop};
 ghost use Rattle.text.specs.Text.{field_of, Small};
 ghost use Rattle.map.specs.Map.{part_of};

@@ -1,4 +1,6 @@
 // The trace program's work: one line in, one line out, on words that the caller lends, beside them the tables of the device's part and the text of the columns.
+#![tactic(auto)]
+
 ghost use Rattle.std.specs.Prelude.{◌+◌, ◌^◌, ◌<◌, ◌≤◌, length};
 ghost use Rattle.map.specs.Map.{part_of};
 ghost use Rattle.device_rules.specs.Device.{out as outcome};

@@ -1,4 +1,6 @@
 // The watch program: a log of events and sign-offs on standard input, an answer for each line, with the loss marks, on standard output.
+#![tactic(auto)]
+
 use libc::STDOUT_FILENO;
 
 fn write_header() {

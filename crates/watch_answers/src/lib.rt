@@ -1,4 +1,6 @@
 // The line of an answer in a watched log: the marks at its end, and a refusal that may be 13.
+#![tactic(auto)]
+
 ghost use Rattle.std.specs.Prelude.{List, ◌∷◌, ◌++◌, ℕ, ◌+◌, ◌<◌, ◌≤◌, length};
 ghost use Rattle.map.specs.Map.{part_of};
 ghost use Rattle.text.specs.Text.{hex_text, Wrote};

@@ -1,4 +1,6 @@
 // A device line and an event of a watched log, answered as a trace has it, with the loss marks beside the device and at the end of the line.
+#![tactic(auto)]
+
 ghost use Rattle.std.specs.Prelude.{◌+◌, ◌^◌, ◌<◌, ◌≤◌, length, get_or};
 ghost use Rattle.map.specs.Map.{part_of};
 ghost use Rattle.device_rules.specs.Device.{out as outcome};

@@ -1,4 +1,6 @@
 // A line of a watched log, read: a trace's event, a device with its healthy levels, or a sign-off.
+#![tactic(auto)]
+
 ghost use Rattle.std.specs.Prelude.{◌≡◌};
 ghost use Rattle.map.specs.Map.{part_of};
 ghost use Rattle.text.specs.Text.{Small};

@@ -1,4 +1,6 @@
 // A whole watched log in pieces of any size, in bounded memory: as a trace's, with the loss marks beside the device.
+#![tactic(auto)]
+
 ghost use Rattle.std.specs.Prelude.{◌≡◌, List, [], ℕ, ◌+◌, ◌*◌, ◌≤◌, length, drop};
 ghost use Rattle.text.specs.Text.{Wrote};
 ghost use Rattle.trace_session.specs.Tracing.{Beside};

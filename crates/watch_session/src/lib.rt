@@ -1,4 +1,6 @@
 // The watch program's work: one line in, one line out, as a trace has it, with the loss marks beside the device and at the end of each line; sign-offs among them.
+#![tactic(auto)]
+
 ghost use Rattle.std.specs.Prelude.{◌+◌, ◌<◌, ◌≤◌, length, get_or};
 ghost use Rattle.map.specs.Map.{part_of};
 ghost use Rattle.device_rules.specs.Device.{out as outcome};

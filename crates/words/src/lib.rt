@@ -1,4 +1,6 @@
 // The state as words that a caller lends, for both parts: what each word is, and the pins' four as sets.
+#![tactic(auto)]
+
 ghost use Rattle.std.specs.Prelude.{◌≡◌, length};
 ghost use Rattle.words.specs.Words.{sets_in, with_sets};
 

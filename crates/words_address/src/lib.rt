@@ -1,4 +1,6 @@
 // Address bytes, on words that are packed: ours, the general call, and the one that asks for a Device ID; for either part.
+#![tactic(auto)]
+
 ghost use Rattle.std.specs.Prelude.{ℕ, get_or};
 ghost use Rattle.map.specs.Map.{part_of};
 ghost use Rattle.device_rules.specs.Device.{addressed};

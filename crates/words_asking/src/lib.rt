@@ -1,4 +1,6 @@
 // The question for a Device ID, on words that are packed: our byte in it, and the byte after START again; for either part.
+#![tactic(auto)]
+
 ghost use Rattle.std.specs.Prelude.{ℕ, get_or};
 ghost use Rattle.map.specs.Map.{part_of};
 ghost use Rattle.device_rules.specs.Device.{byte_in};

@@ -1,4 +1,6 @@
 // The bits of a register that is written, where its row says that they stand: all of them, and those that are 1.
+#![tactic(auto)]
+
 ghost use Rattle.std.specs.Prelude.{◌≡◌, false, true, ◌&&◌, ℕ, ◌<◌, ltb};
 ghost use Rattle.bits.specs.Bits.{bit};
 ghost use Rattle.ports.specs.Ports.{in_port, port_bit, in_edge, rising_bit, falling_bit};

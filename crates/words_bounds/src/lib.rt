@@ -1,4 +1,6 @@
 // Whether each word is within its bounds, the pointer's register apart.
+#![tactic(auto)]
+
 ghost use Rattle.std.specs.Prelude.{◌≡◌, true};
 ghost use Rattle.map.specs.Map.{part_of};
 ghost use Rattle.words.specs.Words.{Fit};

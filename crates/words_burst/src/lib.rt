@@ -1,4 +1,6 @@
 // Many events in one call, on words that are lent: the image is tested once.
+#![tactic(auto)]
+
 ghost use Rattle.words_burst.specs.Burst.{Bursts};
 
 // Refusals as a caller has them.

@@ -1,4 +1,6 @@
 // The command, the byte that sets the pointer and the mode, on words that are packed: for either part.
+#![tactic(auto)]
+
 ghost use Rattle.std.specs.Prelude.{◌≡◌, true, false, ℕ, ◌%◌, get_or};
 ghost use Rattle.map.specs.Map.{part_of};
 ghost use Rattle.device_rules.specs.Device.{byte_in};

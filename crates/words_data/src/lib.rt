@@ -1,4 +1,6 @@
 // Data bytes written in Filling, and the pointer's step over the whole map after any data byte, on words that are packed: for either part.
+#![tactic(auto)]
+
 ghost use Rattle.std.specs.Prelude.{◌≡◌, ℕ, get_or, set};
 ghost use Rattle.map.specs.Map.{part_of, onward};
 ghost use Rattle.device_rules.specs.Device.{byte_in};

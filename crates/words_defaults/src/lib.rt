@@ -1,4 +1,6 @@
 // The words of the defaults, which a reset leaves: for either part.
+#![tactic(auto)]
+
 ghost use Rattle.std.specs.Prelude.{◌≡◌};
 ghost use Rattle.words_defaults.specs.Defaults.{reset_words};
 

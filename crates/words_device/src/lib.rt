@@ -1,4 +1,6 @@
 // The device on words that are lent: made; stepped with every refusal, whatever they hold, and where they are known to be packed without the test of refusal 3.
+#![tactic(auto)]
+
 ghost use Rattle.std.specs.Prelude.{◌≡◌, ℕ, ◌-◌, ◌^◌, ◌<◌, get_or};
 ghost use Rattle.map.specs.Map.{part_of};
 ghost use Rattle.device_rules.specs.PowerOn.{power_on};

@@ -1,4 +1,6 @@
 // The events of a burst out of their bytes, and their answers as bytes.
+#![tactic(auto)]
+
 ghost use Rattle.std.specs.Prelude.{◌≡◌, ◌+◌, ◌*◌, ◌≤◌, false, eqb, length, set};
 ghost use Rattle.device_rules.specs.Answers.{answer_kind, answer_byte};
 ghost use Rattle.words_state.specs.Packed.{answer_at};

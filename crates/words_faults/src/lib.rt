@@ -1,4 +1,6 @@
 // What is wrong in words, as bits: those past a word's last, and what is kept of the interrupt against what the rules work out.
+#![tactic(auto)]
+
 ghost use Rattle.std.specs.Prelude.{◌≡◌, ℕ, ◌/◌, ◌^◌, get_or};
 ghost use Rattle.std.specs.Int.Bits.{bit_or};
 ghost use Rattle.map.specs.Map.{part_of};

@@ -1,4 +1,6 @@
 // Bytes fetched by the master, on words that are packed: for either part.
+#![tactic(auto)]
+
 ghost use Rattle.std.specs.Prelude.{◌≡◌, cond, ℕ, get_or, set};
 ghost use Rattle.map.specs.Map.{part_of, next_in};
 ghost use Rattle.device_rules.specs.Device.{step as step_of};

@@ -1,4 +1,6 @@
 // The register file out of words, and whether they stand for one.
+#![tactic(auto)]
+
 ghost use Rattle.std.specs.Prelude.{◌≡◌, true, length};
 ghost use Rattle.map.specs.Map.{part_of};
 ghost use Rattle.words.specs.Words.{file_of};

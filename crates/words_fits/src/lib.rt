@@ -1,4 +1,6 @@
 // Whether words are the packing of a well-formed image, as refusal 3 asks.
+#![tactic(auto)]
+
 ghost use Rattle.std.specs.Prelude.{◌≡◌, true};
 ghost use Rattle.words_state.specs.Packed.{Packed, Judged};
 

@@ -1,4 +1,6 @@
 // The words out of an image, and an image out of them.
+#![tactic(auto)]
+
 ghost use Rattle.std.specs.Prelude.{◌≡◌, true, get_or};
 ghost use Rattle.map.specs.Map.{part_of};
 ghost use Rattle.registers.specs.Registers.{core};

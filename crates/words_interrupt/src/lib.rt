@@ -1,4 +1,6 @@
 // The interrupt on words: status set and line worked out, kept, and told as INT; for either part.
+#![tactic(auto)]
+
 ghost use Rattle.std.specs.Prelude.{◌≡◌, cond, ℕ, ◌^◌, ◌<◌};
 ghost use Rattle.bits.specs.Bits.{bit};
 ghost use Rattle.pins.specs.AllPins.{asserted};

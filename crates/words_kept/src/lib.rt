@@ -1,4 +1,6 @@
 // A register written or fetched, and levels, on words that are packed: the status set and the line follow where that can change them.
+#![tactic(auto)]
+
 ghost use Rattle.std.specs.Prelude.{◌≡◌, ℕ, ◌^◌, ◌<◌, get_or};
 ghost use Rattle.map.specs.Map.{part_of};
 ghost use Rattle.registers.specs.Registers.{written, fetched, levelled};

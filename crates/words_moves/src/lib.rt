@@ -1,4 +1,6 @@
 // Bits of a word written, at any width, and what that does to the pins: clear, mask, edge fields, latch, configuration.
+#![tactic(auto)]
+
 ghost use Rattle.std.specs.Prelude.{◌≡◌, ℕ, ◌+◌, ◌<◌, get_or};
 ghost use Rattle.bits.specs.Bits.{bit};
 ghost use Rattle.pins.specs.Pin.{only, clear_written, mask_written, edge_written, latch_written, configuration_written};

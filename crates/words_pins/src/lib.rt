@@ -1,4 +1,6 @@
 // What the rules of a pin ask of the words: the registers that events depend on, port kinds, input port bits and status bits, for either part.
+#![tactic(auto)]
+
 ghost use Rattle.std.specs.Prelude.{◌≡◌, ℕ, ◌/◌, ◌<◌, get_or};
 ghost use Rattle.bits.specs.Bits.{bit};
 ghost use Rattle.pins.specs.AllPins.{PinsOf, source_at};

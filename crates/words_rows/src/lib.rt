@@ -1,4 +1,6 @@
 // What a register number of either part means, as one number, its row: a row taken apart.
+#![tactic(auto)]
+
 ghost use Rattle.std.specs.Prelude.{◌≡◌, false, true, ℕ, ◌-◌, ◌^◌, ◌<◌};
 ghost use Rattle.map.specs.Map.{kind_at, reserved, successor, room_at, part_of};
 ghost use Rattle.registers.specs.Interrupt.{rings};

@@ -1,4 +1,6 @@
 // What each register number of the 24-pin part means, as a table of rows.
+#![tactic(auto)]
+
 ghost use Rattle.std.specs.Prelude.{◌≡◌, ◌<◌};
 ghost use Rattle.map.specs.Map.{part24};
 ghost use Rattle.words_rows.specs.Rows.{row_at};

@@ -1,4 +1,6 @@
 // What each register number of the sister means, as a table of rows.
+#![tactic(auto)]
+
 ghost use Rattle.std.specs.Prelude.{◌≡◌, ◌<◌};
 ghost use Rattle.map.specs.Map.{part34};
 ghost use Rattle.words_rows.specs.Rows.{row_at};

@@ -1,4 +1,6 @@
 // Events one after another, on words that are lent and known to be packed, until one is refused.
+#![tactic(auto)]
+
 ghost use Rattle.std.specs.Prelude.{ℕ, ◌*◌, ◌≤◌, length, get_or};
 ghost use Rattle.map.specs.Map.{part_of};
 ghost use Rattle.words_rows.specs.Rows.{Tabled};

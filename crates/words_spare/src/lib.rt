@@ -1,4 +1,6 @@
 // The bits that are set in words of registers and pins, and that their part does not have.
+#![tactic(auto)]
+
 ghost use Rattle.std.specs.Prelude.{◌≡◌, ℕ};
 ghost use Rattle.map.specs.Map.{part_of};
 ghost use Rattle.words.specs.Words.{Fit};

@@ -1,4 +1,6 @@
 // The state that the words hold: answers as numbers, the bus going on, for either part.
+#![tactic(auto)]
+
 ghost use Rattle.std.specs.Prelude.{◌≡◌, set};
 ghost use Rattle.device_rules.specs.declared.Answer.TheVariants.{Byte};
 ghost use Rattle.device_rules.specs.Answers.{answer_byte};

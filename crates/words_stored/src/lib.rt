@@ -1,4 +1,6 @@
 // Words out of a register file: each of its bytes is stored, and moves no pin.
+#![tactic(auto)]
+
 ghost use Rattle.std.specs.Prelude.{◌≡◌, true, ℕ, ◌<◌};
 ghost use Rattle.map.specs.Map.{kind_at, stored, file_fits, part_of};
 ghost use Rattle.registers.specs.Registers.{core};

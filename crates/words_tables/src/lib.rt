@@ -1,4 +1,6 @@
 // The rows of a part that is given by its number: one of them, or all in one piece for a loop, and one out of that.
+#![tactic(auto)]
+
 ghost use Rattle.std.specs.Prelude.{◌≡◌, ℕ, ◌<◌};
 ghost use Rattle.map.specs.Map.{part_of, Stepping};
 ghost use Rattle.words_rows.specs.Rows.{row_at, Rowed};

@@ -1,4 +1,6 @@
 // An event of a burst, which comes as bytes, taken on words that are lent.
+#![tactic(auto)]
+
 ghost use Rattle.std.specs.Prelude.{ℕ, ◌+◌, ◌*◌, ◌≤◌, length, get_or};
 ghost use Rattle.map.specs.Map.{part_of};
 ghost use Rattle.words_rows.specs.Rows.{Tabled};

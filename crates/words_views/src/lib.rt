@@ -1,4 +1,6 @@
 // What can be seen of the words but for INT, what a fetch shows and does, and the levels: for either part.
+#![tactic(auto)]
+
 ghost use Rattle.std.specs.Prelude.{◌≡◌, false, ℕ, ◌-◌, ◌^◌, ◌<◌};
 ghost use Rattle.map.specs.Map.{kind_at, reserved, part_of};
 ghost use Rattle.map.specs.Map.Kind.{Input, InputStatus};

@@ -1,4 +1,6 @@
 // A register written, on words that are lent: its row says where its bits go and what they do to the pins.
+#![tactic(auto)]
+
 ghost use Rattle.std.specs.Prelude.{◌≡◌, false, ℕ};
 ghost use Rattle.map.specs.Map.{reserved, part_of};
 ghost use Rattle.registers.specs.Registers.{written};
