@@ -5,7 +5,7 @@ use mathlib.Core.List.{List, [], ◌∷◌}
 use Prim.Native.Nat.{ℕ, zero, suc, ◌+◌, ◌*◌, ◌/◌, ◌%◌, ◌^◌, ◌<◌, ◌≤◌}
 use native.Mathlib.Nat.{mod-lt, mod-le, div-add-mod'}
 use native.Mathlib.Omega.{arith}
-use borrow.Author.Tests.{lt-ltb, ltb-true, leb-true, eqb-true, not_true}
+use borrow.Author.Tests.{lt-ltb, ltb-true, leb-true, eqb-true, not-true}
 use lib.Dec.{eqb, ltb, leb}
 use lib.ListN.{length, get_or, set, length-set}
 use lib.Pow.{pow_pos}
@@ -73,7 +73,7 @@ no_input p ok r fits i h e =
     let listed = ltb-true n 128 (ok.listed (i / 8) (omega (arith, div-add-mod' i 8, h))) in
     let fit = fitting p (kind_at p n) v in
     let small = ltb v (2 ^ room_at p n) in
-    let cut = not_true (whole p) (and_left part past absent) in
+    let cut = not-true (whole p) (and_left part past absent) in
     let entry : (fit && small) ≡ true = ap (λ (b : Bool). cond b fit (fit && small)) (sym cut) ∙ fits_entry p r.file fits n listed in
     bit_high (room_at p n) v (i % 8) (ltb-true v (2 ^ room_at p n) (and_right fit small entry)) (leb-true (room_at p n) (i % 8) (and_right part past absent))
 
@@ -149,8 +149,8 @@ next_known : (p : Part) → Lawful p → (mode n : ℕ) → n < 128 → reserved
 unfolding next_in
 next_known p ok mode n h e =
     either_arm (λ (m : ℕ). reserved p m ≡ false) (eqb mode 1)
-    (not_true (reserved p (onward p n)) (ap (λ (b : Bool). b || not (reserved p (onward p n))) (sym e) ∙ ok.walks n h))
-    (not_true (reserved p (next p n)) (ap (λ (b : Bool). b || not (reserved p (next p n))) (sym e) ∙ ok.steps n h))
+    (not-true (reserved p (onward p n)) (ap (λ (b : Bool). b || not (reserved p (onward p n))) (sym e) ∙ ok.walks n h))
+    (not-true (reserved p (next p n)) (ap (λ (b : Bool). b || not (reserved p (next p n))) (sym e) ∙ ok.steps n h))
 
 -- the place steps to a place
 next_small : (place : ℕ) → next_place place < 3

@@ -2,7 +2,7 @@
 use mathlib.Core.Path.{◌≡◌, sym, ap}
 use mathlib.Core.Bool.{true, false, not, ◌&&◌}
 use Prim.Native.Nat.{ℕ, ◌^◌, ◌<◌}
-use borrow.Author.Tests.{lt-ltb, ltb-true, not_true, eq-eqb, eqb-true}
+use borrow.Author.Tests.{lt-ltb, ltb-true, not-true, eq-eqb, eqb-true}
 use lib.Dec.{eqb, ltb}
 use Rattle.bits.proofs.Decide.{and_left, and_right}
 use Rattle.pins.specs.AllPins.{Within}
@@ -77,7 +77,7 @@ sound_of p s e =
     let v = and_right d (x && (f && k)) i in
     let id = identity_of s.id (and_left d (x && (f && k)) i) in
     let y = and_right x (f && k) v in
-    let known = not_true (reserved p s.pointer) (and_left r (m && (b && (c && (d && (x && (f && k)))))) e) in
+    let known = not-true (reserved p s.pointer) (and_left r (m && (b && (c && (d && (x && (f && k)))))) e) in
     record {
       pointer_small = known_small p s.pointer known;
       pointer_known = known;

@@ -4,7 +4,7 @@ use mathlib.Core.Bool.{Bool, true, false, not, ◌||◌}
 use mathlib.Core.List.{List, [], ◌∷◌}
 use Prim.Native.Nat.{ℕ, zero, suc, ◌+◌, ◌<◌}
 use native.Mathlib.Omega.{arith}
-use borrow.Author.Tests.{ltb-true, eqb-true, ne_eqb, not_true}
+use borrow.Author.Tests.{ltb-true, eqb-true, ne_eqb, not-true}
 use lib.Dec.{eqb, ltb}
 use Rattle.bits.proofs.Decide.{clash, each_bool}
 use Rattle.map.specs.Map.{Part, part24, part34, part_of, kind_at, code, reserved, next, onward, next_in}
@@ -79,7 +79,7 @@ onto zero = onto24
 onto (suc part) = onto34
 
 pub onward_known : (part n : ℕ) → reserved (part_of part) n ≡ false → reserved (part_of part) (onward (part_of part) n) ≡ false
-onward_known part n known = not_true _ (simp known at (onto part n (known_small (part_of part) n known)))
+onward_known part n known = not-true _ (simp known at (onto part n (known_small (part_of part) n known)))
 
 -- the step by the mode
 pub in_group : (p : Part) (mode n : ℕ) → mode ≡ 0 → next p n ≡ next_in p mode n

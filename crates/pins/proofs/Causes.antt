@@ -1,7 +1,7 @@
 -- A status bit that shows 1 goes to 0 only by a listed cause, for one pin in whatever state. Assumes nothing.
 use mathlib.Core.Path.{◌≡◌, refl}
 use mathlib.Core.Bool.{Bool, true, false, not, ◌&&◌, ◌||◌}
-use borrow.Author.Tests.{not_true}
+use borrow.Author.Tests.{not-true}
 use Rattle.bits.specs.Bits.{differs}
 use Rattle.bits.proofs.Decide.{clash, and_left, and_right, taut}
 use Rattle.pins.specs.Pin.{source, pin, pending, status, matches, level_to, clear_written, mask_written, latch_written, configuration_written}
@@ -56,9 +56,9 @@ only_by_cause (LevelTo new) s p q =
     let a = and_left (not v.rising && not v.falling) (not v.latch && not (differs new x.reference)) t in
     let b = and_right (not v.rising && not v.falling) (not v.latch && not (differs new x.reference)) t in
     returned
-    (not_true v.rising (and_left (not v.rising) (not v.falling) a))
-    (not_true v.falling (and_right (not v.rising) (not v.falling) a))
-    (not_true v.latch (and_left (not v.latch) (not (differs new x.reference)) b))
+    (not-true v.rising (and_left (not v.rising) (not v.falling) a))
+    (not-true v.falling (and_right (not v.rising) (not v.falling) a))
+    (not-true v.latch (and_left (not v.latch) (not (differs new x.reference)) b))
     (alike new x.reference (and_right (not v.latch) (not (differs new x.reference)) b))
 only_by_cause InputFetched s p q = fetched
 only_by_cause (ClearWritten true) s p q = cleared

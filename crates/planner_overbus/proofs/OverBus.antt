@@ -8,7 +8,7 @@ use Prim.Native.Nat.{ℕ, zero, suc, ◌+◌, ◌/◌, ◌<◌}
 use native.Mathlib.Omega.{arith}
 use lib.Dec.{eqb}
 use lib.ListN.{take}
-use borrow.Author.Tests.{not_true, eqb-true, eqb-false}
+use borrow.Author.Tests.{not-true, eqb-true, eqb-false}
 use Rattle.map.specs.Map.{Part, reserved, walked}
 use Rattle.registers.specs.Registers.{Core, written}
 use Rattle.device_rules.specs.Device.{State, goes, number as number_of}
@@ -41,7 +41,7 @@ module _ (p : Part) (law : Lawful p) (ok : Plannable p) where
 
   -- none of a setting's registers is reserved
   planned_known : (r : ℕ) → IsPlanned p r → reserved p r ≡ false
-  planned_known r h = not_true (reserved p r) (of_each p ok r h (λ n. not (reserved p n)) ok.known)
+  planned_known r h = not-true (reserved p r) (of_each p ok r h (λ n. not (reserved p n)) ok.known)
 
   none : {A : Type 0} (t : ℕ) → take {A = A} t [] ≡ []
   none zero = refl

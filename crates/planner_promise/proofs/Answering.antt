@@ -4,7 +4,7 @@ use mathlib.Core.Bool.{Bool, true, false, cond, not, ◌&&◌}
 use mathlib.Core.List.{List}
 use Prim.Native.Nat.{ℕ, zero, suc, ◌+◌, ◌^◌, ◌<◌, ◌≤◌}
 use native.Mathlib.Omega.{arith}
-use borrow.Author.Tests.{not_true, not-false, eqb-true, ltb-true, lt-ltb, le-ltb}
+use borrow.Author.Tests.{not-true, not-false, eqb-true, ltb-true, lt-ltb, le-ltb}
 use lib.Dec.{eqb, ltb}
 use lib.ListN.{length, get_or}
 use Rattle.map.specs.Map.{Part}
@@ -18,7 +18,7 @@ use Rattle.planner_quiet.proofs.Blocked.{both}
 
 -- a test `!r` of the result r of a function that promises r ≡ f
 pub fails : {r f : Bool} → r ≡ f → not r ≡ true → f ≡ false
-fails {r} e h = sym e ∙ not_true r h
+fails {r} e h = sym e ∙ not-true r h
 
 pub holds : {r f : Bool} → r ≡ f → not r ≡ false → f ≡ true
 holds {r} e h = sym e ∙ not-false r h

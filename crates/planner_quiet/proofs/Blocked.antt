@@ -5,7 +5,7 @@ use mathlib.Core.List.{List, [], ◌∷◌}
 use mathlib.Core.Logic.{◌⊎◌, inl, inr, ⊎_elim}
 use Prim.Native.Nat.{ℕ, zero, suc, ◌+◌, ◌*◌, ◌<◌}
 use native.Mathlib.Omega.{arith}
-use borrow.Author.Tests.{eqb-true, eqb-false, not_true}
+use borrow.Author.Tests.{eqb-true, eqb-false, not-true}
 use lib.Dec.{eqb}
 use lib.Seq.{get_or-set_other}
 use Rattle.bits.proofs.Decide.{and_left, and_right, clash as never}
@@ -72,7 +72,7 @@ high_kinds false true false true e = absurd (let z : ◌≡◌ {A = ℕ} 0 1 = c
 high_kinds false true false false e = refl
 
 differ : (a b : Bool) → differs a b ≡ true → a ≡ b → ⊥
-differ true b e q = clash (sym q) (not_true b e)
+differ true b e q = clash (sym q) (not-true b e)
 differ false b e q = clash e (sym q)
 
 module _ (p : Shape) (k j : ℕ) where

@@ -5,7 +5,7 @@ use mathlib.Core.List.{List}
 use Prim.Native.Nat.{ℕ, ◌+◌, ◌-◌, ◌*◌, ◌/◌, ◌%◌, ◌^◌, ◌<◌, ◌≤◌}
 use native.Mathlib.Nat.{div-add-mod'}
 use native.Mathlib.Omega.{arith}
-use borrow.Author.Tests.{eqb-true, eqb-false, ltb-true, not_true}
+use borrow.Author.Tests.{eqb-true, eqb-false, ltb-true, not-true}
 use lib.Arith.{digits_div, digits_mod}
 use lib.Dec.{eqb, ltb}
 use lib.ListN.{length, get_or, set}
@@ -170,14 +170,14 @@ default_pin p ok i h = same (registers_at p (defaults p) i) (ok.default i h)
           source = record {
             configuration = and_left v.source.configuration _ e j;
             mask = and_left v.source.mask _ e1 j;
-            latch = not_true v.source.latch (and_left (not v.source.latch) _ e2) j;
-            rising = not_true v.source.rising (and_left (not v.source.rising) _ e3) j;
-            falling = not_true v.source.falling (and_left (not v.source.falling) _ e4) j;
+            latch = not-true v.source.latch (and_left (not v.source.latch) _ e2) j;
+            rising = not-true v.source.rising (and_left (not v.source.rising) _ e3) j;
+            falling = not-true v.source.falling (and_left (not v.source.falling) _ e4) j;
           };
           output = and_left v.output _ e5 j;
-          polarity = not_true v.polarity (and_left (not v.polarity) _ e6) j;
-          port_kind = not_true v.port_kind (and_left (not v.port_kind) _ e7) j;
-          pin_kind = not_true v.pin_kind (and_right (not v.port_kind) _ e7) j;
+          polarity = not-true v.polarity (and_left (not v.polarity) _ e6) j;
+          port_kind = not-true v.port_kind (and_left (not v.port_kind) _ e7) j;
+          pin_kind = not-true v.pin_kind (and_right (not v.port_kind) _ e7) j;
         }
 
 -- ---- what the file says of pin i after number n of it holds u

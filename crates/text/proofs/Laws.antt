@@ -1,6 +1,6 @@
 -- One turn of each loop, over plain lists; what a byte's digits are is tried at each byte. Assumes nothing.
 use mathlib.Core.Path.{◌≡◌, refl, ap, sym, ◌∙◌}
-use mathlib.Core.Bool.{Bool, true, false, cond, and_false}
+use mathlib.Core.Bool.{Bool, true, false, cond, and-false}
 use mathlib.Core.List.{List, [], ◌∷◌, ◌++◌}
 use Prim.Native.Nat.{ℕ, zero, suc, ◌+◌, ◌-◌, ◌*◌, ◌/◌, ◌%◌, ◌^◌, ◌<◌, ◌≤◌}
 use native.Mathlib.Numerals.{add-one}
@@ -24,7 +24,7 @@ pub starts_short : (word text : List ℕ) → length text < length word → star
 unfolding starts_with
 starts_short [] text h = absurd (omega arith)
 starts_short (w ∷ word) [] h = refl
-starts_short (w ∷ word) (b ∷ text) h = rw (starts_short word text (omega arith)) (and_false (eqb b w))
+starts_short (w ∷ word) (b ∷ text) h = rw (starts_short word text (omega arith)) (and-false (eqb b w))
 
 module _ (word text : List ℕ) (i : ℕ) (in_word : i < length word) (in_text : i < length text) where
   pub starts_differ : (get_or text i 0 ≡ get_or word i 0 → ⊥) → starts_with (drop i word) (drop i text) ≡ false

@@ -1,14 +1,14 @@
 -- `device_answers::int`: of packed words their line; else 3 and asserted. Assumes nothing.
 use borrow.Author.Rules.{rules}
 use mathlib.Core.Path.{ap, ◌∙◌}
-use borrow.Author.Tests.{not_true, not-false}
+use borrow.Author.Tests.{not-true, not-false}
 use Rattle.device_answers.specs.Questions.{line}
 use Rattle.device_answers.proofs.Refusing.{refused}
 use Rattle.device_answers.proofs.int.Statement.{statement}
 use Rattle.device_answers.proofs.int.Tie as tie
 
 returns : tie.Need-returns
-returns c = λ part packed. refused c.before.args.fits _ _ (not_true _ c.if1.true)
+returns c = λ part packed. refused c.before.args.fits _ _ (not-true _ c.if1.true)
 
 returns_2 : tie.Need-returns-2
 returns_2 c =

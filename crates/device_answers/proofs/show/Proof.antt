@@ -4,7 +4,7 @@ use mathlib.Core.Path.{◌≡◌, sym, ap, ◌∙◌}
 use mathlib.Core.Bool.{Bool, true, not, ◌||◌}
 use Prim.Native.Nat.{ℕ, ◌<◌}
 use native.Mathlib.Omega.{arith}
-use borrow.Author.Tests.{not_true, not-false, ne_eqb, eq-eqb, le-ltb}
+use borrow.Author.Tests.{not-true, not-false, ne_eqb, eq-eqb, le-ltb}
 use lib.Dec.{eqb}
 use Rattle.map.specs.Map.{Part, kind_at, code, reserved, part_of}
 use Rattle.map.specs.Map.Kind.{Reserved}
@@ -20,7 +20,7 @@ unfolding reserved
 over p n h = ap (λ (t : Bool). not t || eqb (code (kind_at p n)) (code Reserved)) (le-ltb n 128 h)
 
 returns : tie.Need-returns
-returns c = λ packed. refused c.before.args.fits _ _ (not_true _ c.if1.true)
+returns c = λ packed. refused c.before.args.fits _ _ (not-true _ c.if1.true)
 
 returns_2 : tie.Need-returns-2
 returns_2 c =

@@ -3,7 +3,7 @@ use borrow.Author.Rules.{rules}
 use mathlib.Core.Path.{sym, ap, ◌∙◌}
 use mathlib.Core.List.{[], ◌∷◌}
 use Prim.Native.Nat.{ℕ, ◌<◌}
-use borrow.Author.Tests.{eq-eqb, ne_eqb, not_true, not-false}
+use borrow.Author.Tests.{eq-eqb, ne_eqb, not-true, not-false}
 use native.Mathlib.Omega.{arith}
 use Rattle.bits.proofs.Decide.{clash}
 use Rattle.words_rows.proofs.Taken.{row_zero, word_there}
@@ -12,7 +12,7 @@ use Rattle.host_calls.proofs.show.Statement.{statement}
 use Rattle.host_calls.proofs.show.Tie as tie
 
 returns : tie.Need-returns
-returns c = not_shown _ _ _ _ (λ k. clash _ (c.before.fits2.ensures.1 k) (not_true _ c.if1.true))
+returns c = not_shown _ _ _ _ (λ k. clash _ (c.before.fits2.ensures.1 k) (not-true _ c.if1.true))
 
 returns_2 : tie.Need-returns-2
 returns_2 c =

@@ -1,13 +1,13 @@
 -- `unpack`: 3 where the words are packed of none; else the file and the words of the rest (`to_image`). Assumes nothing.
 use borrow.Author.Rules.{rules}
-use borrow.Author.Tests.{not_true, not-false}
+use borrow.Author.Tests.{not-true, not-false}
 use Rattle.bits.proofs.Decide.{clash}
 use Rattle.host_words.proofs.Laws.{to_image, to_none}
 use Rattle.host_images.proofs.unpack.Statement.{statement}
 use Rattle.host_images.proofs.unpack.Tie as tie
 
 returns : tie.Need-returns
-returns c = to_none _ _ _ _ _ (λ k. clash _ (c.before.fits2.ensures.1 k) (not_true _ c.if1.true))
+returns c = to_none _ _ _ _ _ (λ k. clash _ (c.before.fits2.ensures.1 k) (not-true _ c.if1.true))
 
 returns_2 : tie.Need-returns-2
 returns_2 c =

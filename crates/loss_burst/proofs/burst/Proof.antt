@@ -1,7 +1,7 @@
 -- `burst`: by its tests, in their order. Assumes nothing.
 use borrow.Author.Rules.{rules}
 use mathlib.Core.Path.{sym, ◌∙◌}
-use borrow.Author.Tests.{not_true, not-false}
+use borrow.Author.Tests.{not-true, not-false}
 use Rattle.bits.proofs.Decide.{clash}
 use Rattle.map.specs.Map.{part_of}
 use Rattle.words_state.proofs.Standing.{named}
@@ -21,13 +21,13 @@ returns_3 : tie.Need-returns-3
 returns_3 c =
     let part = c.before.before.before.before.before.before.before.before.before.before.args.part in
     unfit part _ _ _ _ _ _ (sym c.before.before.before.before.before.before.before.is-bad.ensures ∙ c.before.before.before.before.before.before.if1.false) c.before.before.before.before.before.if2.false
-    (sym (not_true _ c.before.if3.true) ∙ c.before.before.fit.ensures (part_of part) c.before.before.before.before.pins-of.ensures)
+    (sym (not-true _ c.before.if3.true) ∙ c.before.before.fit.ensures (part_of part) c.before.before.before.before.pins-of.ensures)
 
 returns_4 : tie.Need-returns-4
 returns_4 c =
     let part = c.before.before.before.before.before.before.before.before.before.before.before.before.before.args.part in
     no_image part _ _ _ _ _ _ (sym c.before.before.before.before.before.before.before.before.before.before.is-bad.ensures ∙ c.before.before.before.before.before.before.before.before.before.if1.false) c.before.before.before.before.before.before.before.before.if2.false
-    (sym (not-false _ c.before.before.before.before.if3.false) ∙ c.before.before.before.before.before.fit.ensures (part_of part) c.before.before.before.before.before.before.before.pins-of.ensures) (λ k. clash _ (c.before.before.fits2.ensures.1 k) (not_true _ c.before.if4.true))
+    (sym (not-false _ c.before.before.before.before.if3.false) ∙ c.before.before.before.before.before.fit.ensures (part_of part) c.before.before.before.before.before.before.before.pins-of.ensures) (λ k. clash _ (c.before.before.fits2.ensures.1 k) (not-true _ c.before.if4.true))
 
 run_requires : tie.Need-run-requires
 run_requires c κs =

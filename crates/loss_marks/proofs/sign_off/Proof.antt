@@ -2,7 +2,7 @@
 use borrow.Author.Rules.{rules}
 use mathlib.Core.Path.{sym, ◌∙◌, subst}
 use Prim.Native.Nat.{ℕ, ◌<◌, ◌≤◌}
-use borrow.Author.Tests.{not_true, not-false}
+use borrow.Author.Tests.{not-true, not-false}
 use native.Mathlib.Omega.{arith}
 use Rattle.bits.proofs.Decide.{clash}
 use Rattle.map.specs.Map.{part_of}
@@ -11,13 +11,13 @@ use Rattle.loss_marks.proofs.sign_off.Statement.{statement}
 use Rattle.loss_marks.proofs.sign_off.Tie as tie
 
 returns : tie.Need-returns
-returns c = broken _ _ _ _ (λ k. clash _ (c.before.fits2.ensures.1 k) (not_true _ c.if1.true))
+returns c = broken _ _ _ _ (λ k. clash _ (c.before.fits2.ensures.1 k) (not-true _ c.if1.true))
 
 returns_2 : tie.Need-returns-2
 returns_2 c =
     let s = c.before.before.before.before.before.before in
     let k = c.before.before.before.before.before.fits2.ensures.0 (not-false _ c.before.before.before.before.if1.false) in
-    unfit s.args.part _ _ _ k (sym (not_true _ c.if2.true) ∙ c.before.fit.ensures (part_of s.args.part) c.before.before.pins-of.ensures)
+    unfit s.args.part _ _ _ k (sym (not-true _ c.if2.true) ∙ c.before.fit.ensures (part_of s.args.part) c.before.before.pins-of.ensures)
 
 returns_3 : tie.Need-returns-3
 returns_3 c =
@@ -37,7 +37,7 @@ returns_4 c =
     let k = c.before.before.before.before.before.before.before.before.before.before.fits2.ensures.0 (not-false _ c.before.before.before.before.before.before.before.before.before.if1.false) in
     let f = sym (not-false _ c.before.before.before.before.before.if2.false) ∙ c.before.before.before.before.before.before.fit.ensures (part_of s.args.part) c.before.before.before.before.before.before.before.pins-of.ensures in
     let there = subst (λ (n : ℕ). s.args.pin < n) c.before.before.before.before.width_of_lem.ensures.0 c.before.before.before.if3.false in
-    unwell s.args.part _ _ _ k f there (sym (not_true _ c.if4.true) ∙ c.before.is-well.ensures)
+    unwell s.args.part _ _ _ k f there (sym (not-true _ c.if4.true) ∙ c.before.is-well.ensures)
 
 clear_requires : tie.Need-clear-requires
 clear_requires c κs =

@@ -1,7 +1,7 @@
 -- `loss_marks::step`: by the marks (`unfit`), the device's refusal (`refused`) or what is noted (`taken`). Assumes nothing.
 use borrow.Author.Rules.{rules}
 use mathlib.Core.Path.{sym, ◌∙◌}
-use borrow.Author.Tests.{not_true, not-false}
+use borrow.Author.Tests.{not-true, not-false}
 use Rattle.map.specs.Map.{part_of}
 use Rattle.loss_marks.proofs.Stepping.{unfit, refused, taken}
 use Rattle.loss_marks.proofs.step.Statement.{statement}
@@ -10,7 +10,7 @@ use Rattle.loss_marks.proofs.step.Tie as tie
 returns : tie.Need-returns
 returns c =
     let s = c.before.before.before.before in
-    unfit s.args.part _ _ _ _ (sym (not_true _ c.if1.true) ∙ c.before.fit.ensures (part_of s.args.part) c.before.before.pins-of.ensures)
+    unfit s.args.part _ _ _ _ (sym (not-true _ c.if1.true) ∙ c.before.fit.ensures (part_of s.args.part) c.before.before.pins-of.ensures)
 
 returns_2 : tie.Need-returns-2
 returns_2 c =

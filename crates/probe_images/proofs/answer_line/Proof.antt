@@ -1,7 +1,7 @@
 -- `probe_images::answer_line`: refusal 7 where the line is not readable, else the step that it asks; a step that is not refused leaves an image that fits. Assumes nothing.
 use native.Mathlib.Omega.{arith}
 use borrow.Author.Rules.{rules}
-use borrow.Author.Tests.{not_true, not-false}
+use borrow.Author.Tests.{not-true, not-false}
 use mathlib.Core.Path.{sym, ◌∙◌}
 use Rattle.text.proofs.Laws.{wrote_as}
 use Rattle.text_answers.proofs.Laws.{refused_short}
@@ -16,7 +16,7 @@ returns c =
     let p = c.before.before in
     let t = p.before.before in
     let w = p.Put-refused.ensures in
-    (wrote_as (unreadable_text t.before.before.before.before.args.part _ t.before.is-readable.ensures (not_true _ t.if1.true)) w, omega (arith, w.ends, refused_short 7))
+    (wrote_as (unreadable_text t.before.before.before.before.args.part _ t.before.is-readable.ensures (not-true _ t.if1.true)) w, omega (arith, w.ends, refused_short 7))
 
 step_in_requires : tie.Need-step-in-requires
 step_in_requires c κs = (search rules, readable_long _ (sym c.before.is-readable.ensures ∙ not-false _ c.if1.false))

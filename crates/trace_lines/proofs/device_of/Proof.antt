@@ -1,7 +1,7 @@
 -- `trace_lines::device_of`: each way out is a law of `device_of`: too short, no tab, its two fields. Assumes nothing.
 use borrow.Author.Rules.{rules}
 use mathlib.Core.Path.{sym, ◌∙◌}
-use borrow.Author.Tests.{not_true, not-false}
+use borrow.Author.Tests.{not-true, not-false}
 use Rattle.text.proofs.Laws.{field_small}
 use Rattle.trace_lines.proofs.Laws.{device_short, device_no_tab, device_fields}
 use Rattle.trace_lines.proofs.device_of.Statement.{statement}
@@ -11,7 +11,7 @@ returns : tie.Need-returns
 returns c = device_short _ _ c.if1.true
 
 returns_2 : tie.Need-returns-2
-returns_2 c = device_no_tab _ _ (sym c.before.starts.ensures ∙ not_true _ c.if2.true)
+returns_2 c = device_no_tab _ _ (sym c.before.starts.ensures ∙ not-true _ c.if2.true)
 
 device_with_requires : tie.Need-device-with-requires
 device_with_requires c κs = rw c.before.before.before.before.field.ensures (field_small 1 3 _)

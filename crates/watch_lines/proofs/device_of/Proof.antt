@@ -1,7 +1,7 @@
 -- `watch_lines::device_of`: each way out is a law of `device_of`: too short, no tab, its fields. Assumes nothing.
 use borrow.Author.Rules.{rules}
 use mathlib.Core.Path.{sym, ◌∙◌}
-use borrow.Author.Tests.{not_true, not-false}
+use borrow.Author.Tests.{not-true, not-false}
 use Rattle.watch_lines.proofs.Laws.{device_short, device_no_tab, device_fields}
 use Rattle.watch_lines.proofs.device_of.Statement.{statement}
 use Rattle.watch_lines.proofs.device_of.Tie as tie
@@ -10,7 +10,7 @@ returns : tie.Need-returns
 returns c = device_short _ _ _ c.before.digits_of.ensures.0 c.if1.true
 
 returns_2 : tie.Need-returns-2
-returns_2 c = device_no_tab _ _ _ c.before.before.before.before.before.digits_of.ensures.0 (sym c.before.starts.ensures ∙ not_true _ c.if2.true)
+returns_2 c = device_no_tab _ _ _ c.before.before.before.before.before.digits_of.ensures.0 (sym c.before.starts.ensures ∙ not-true _ c.if2.true)
 
 returns_3 : tie.Need-returns-3
 returns_3 c =

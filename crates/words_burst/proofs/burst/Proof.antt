@@ -1,7 +1,7 @@
 -- `burst`: by its tests, in their order. Assumes nothing.
 use borrow.Author.Rules.{rules}
 use mathlib.Core.Path.{sym, ◌∙◌}
-use borrow.Author.Tests.{not_true, not-false}
+use borrow.Author.Tests.{not-true, not-false}
 use Rattle.bits.proofs.Decide.{clash}
 use Rattle.words_state.proofs.Standing.{named}
 use Rattle.words_device.proofs.Naming.{its_tables}
@@ -22,7 +22,7 @@ returns_3 c =
     let f = c.before.before in
     let asked = f.before.before in
     let t = asked.before in
-    no_image _ _ _ _ _ _ (sym t.before.is-bad.ensures ∙ t.if1.false) asked.if2.false (λ k. clash _ (f.fits2.ensures.1 k) (not_true _ c.before.if3.true))
+    no_image _ _ _ _ _ _ (sym t.before.is-bad.ensures ∙ t.if1.false) asked.if2.false (λ k. clash _ (f.fits2.ensures.1 k) (not-true _ c.before.if3.true))
 
 run_requires : tie.Need-run-requires
 run_requires c κs =

@@ -1,7 +1,7 @@
 -- `words_fetches::was_fetched`: Deaf, or the pointer's step by the mode. Assumes nothing.
 use borrow.Author.Rules.{rules}
 use mathlib.Core.Path.{refl, ap, ◌∙◌}
-use borrow.Author.Tests.{not_true, not-false}
+use borrow.Author.Tests.{not-true, not-false}
 use lib.ListN.{get_or, set}
 use Rattle.map.specs.Map.{part_of}
 use Rattle.map.proofs.Onward.{known_small, in_group, over_map}
@@ -11,7 +11,7 @@ use Rattle.words_fetches.proofs.was_fetched.Tie as tie
 
 returns : tie.Need-returns
 returns c =
-    let deaf = not_true c.before.before.before.args.acknowledged c.before.before.if1.true in
+    let deaf = not-true c.before.before.before.args.acknowledged c.before.before.if1.true in
     (c.goes.ensures.0, λ k packed e. simp deaf c.goes.ensures.1)
 
 returns_2 : tie.Need-returns-2

@@ -1,7 +1,7 @@
 -- `words_fits::judged34`: bounded words whose pointer has a row, and only those (`judged_out`, `judged_in`). Assumes nothing.
 use borrow.Author.Rules.{rules}
 use native.Mathlib.Omega.{arith}
-use borrow.Author.Tests.{not_true, not-false}
+use borrow.Author.Tests.{not-true, not-false}
 use Rattle.words_fits.proofs.Parts.{limits34, judged_out, judged_in}
 use Rattle.words_fits.proofs.judged34.Statement.{statement}
 use Rattle.words_fits.proofs.judged34.Tie as tie
@@ -10,7 +10,7 @@ bounded_requires : tie.Need-bounded-requires
 bounded_requires c κs = c.spare.ensures 1 limits34
 
 returns : tie.Need-returns
-returns c = judged_out 1 (omega arith) _ _ c.before.bounded.ensures (not_true _ c.if1.true)
+returns c = judged_out 1 (omega arith) _ _ c.before.bounded.ensures (not-true _ c.if1.true)
 
 row34_requires : tie.Need-row34-requires
 row34_requires c κs =

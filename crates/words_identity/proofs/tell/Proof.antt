@@ -2,7 +2,7 @@
 use borrow.Author.Rules.{rules}
 use mathlib.Core.Path.{refl, ap, ◌∙◌}
 use native.Mathlib.Omega.{arith}
-use borrow.Author.Tests.{not_true, not-false}
+use borrow.Author.Tests.{not-true, not-false}
 use Rattle.map.specs.Map.{part_of}
 use Rattle.device_rules.specs.Device.{fetch_in}
 use Rattle.device_rules.specs.declared.Answer.TheVariants.{Byte}
@@ -20,7 +20,7 @@ returns c =
     let byte = read.before in
     let a = byte.before.before.args in
     let w = a.words.now in
-    let deaf = not_true a.acknowledged then.if1.true in
+    let deaf = not-true a.acknowledged then.if1.true in
     λ k packed bus. went k w packed (Byte byte.byte-told.result) 7 (omega arith) (ap answer_at c.goes.ensures.0 ∙ read.read.ensures) c.goes.ensures.1
     (fetched_in_lem (part_of k) (state_in (part_of k) w) a.acknowledged 11 bus (same_outcome (ap Byte byte.byte-told.ensures) (simp deaf refl)))
 

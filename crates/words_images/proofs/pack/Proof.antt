@@ -1,6 +1,6 @@
 -- `words_images::pack`: words are made of the file, the pins and the rest, and judged before they are kept. Assumes nothing.
 use borrow.Author.Rules.{rules}
-use borrow.Author.Tests.{not_true, not-false}
+use borrow.Author.Tests.{not-true, not-false}
 use Rattle.bits.proofs.Decide.{clash}
 use Rattle.words_images.proofs.Packing.{no_such_file, not_packed, judged_packed}
 use Rattle.words_images.proofs.pack.Statement.{statement}
@@ -14,7 +14,7 @@ returns c =
     let a = from.before.before.args in
     let u = from.from-file.ensures in
     let t = rw put.put-sets.ensures at s.stand-for.ensures in
-    no_such_file a.part _ a.file.now u.0 u.1 a.sets a.pointer a.bus a.choice a.status a.line a.mode a.number a.place (λ h. clash _ (t.1 h) (not_true _ c.if1.true)) a.words.now
+    no_such_file a.part _ a.file.now u.0 u.1 a.sets a.pointer a.bus a.choice a.status a.line a.mode a.number a.place (λ h. clash _ (t.1 h) (not-true _ c.if1.true)) a.words.now
 
 returns_2 : tie.Need-returns-2
 returns_2 c =
@@ -24,7 +24,7 @@ returns_2 c =
     let a = from.before.before.args in
     let u = from.from-file.ensures in
     let t = rw put.put-sets.ensures at f.fits2.ensures in
-    not_packed a.part _ a.file.now u.0 u.1 a.sets a.pointer a.bus a.choice a.status a.line a.mode a.number a.place (λ k. clash _ (t.1 k) (not_true _ c.if2.true)) a.words.now
+    not_packed a.part _ a.file.now u.0 u.1 a.sets a.pointer a.bus a.choice a.status a.line a.mode a.number a.place (λ k. clash _ (t.1 k) (not-true _ c.if2.true)) a.words.now
 
 returns_3 : tie.Need-returns-3
 returns_3 c =

@@ -1,7 +1,7 @@
 -- `Device::step`: packed, stepped on the words, unpacked (`unpacked`); a device that does not pack is refused with 3 (`not_stepped`). Assumes nothing.
 use borrow.Author.Rules.{rules}
 use mathlib.Core.Path.{refl, sym, ap, ap₂, ◌∙◌}
-use borrow.Author.Tests.{not_true, not-false}
+use borrow.Author.Tests.{not-true, not-false}
 use Rattle.map.specs.Map.{part_of}
 use Rattle.device_rules.specs.Device.{State, out}
 use Rattle.device_rules.specs.Held.{state_of}
@@ -16,7 +16,7 @@ use Rattle.device.proofs.Device.step.Tie as tie
 returns : tie.Need-returns
 returns c =
     let x = c.before.before.before.args in
-    record { outcome = not_stepped x.self x.kind x.arg (no_image c.before.pack.ensures (not_true _ c.if1.true)); part_stays = refl }
+    record { outcome = not_stepped x.self x.kind x.arg (no_image c.before.pack.ensures (not-true _ c.if1.true)); part_stays = refl }
 
 event_requires : tie.Need-event-requires
 event_requires c κs =
