@@ -9,7 +9,6 @@ use lib.Arith.{digits_div, digits_mod}
 use lib.ListN.{get_or}
 use Rattle.bits.specs.Bits.{bit}
 use Rattle.bits.proofs.Laws.{bit_tabulate}
-use Rattle.pins.specs.Pin.{source}
 use Rattle.ports.specs.Ports.{byte_of, rising_bit, falling_bit}
 use Rattle.map.specs.Map.{Part, Kind, first_of, code}
 use Rattle.map.specs.Map.Kind.{Configuration, Latch, Mask, PortKind, Edge, Output, Polarity, PinKind}

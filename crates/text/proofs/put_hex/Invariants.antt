@@ -1,6 +1,6 @@
 -- `text::put_hex`: at each turn the digits stored from the right and those left are all digits. Assumes nothing.
 use mathlib.Core.Path.{◌≡◌}
-use Prim.Native.Nat.{◌-◌, ◌≤◌}
+use Prim.Native.Nat.{◌≤◌}
 use lib.ListN.{length}
 use lib.Seq.{sets}
 use Rattle.text.specs.Text.{hex_text}

@@ -1,7 +1,7 @@
 use borrow.Author.Rules.{rules}
 use mathlib.Core.Path.{sym, ◌∙◌}
 use native.Mathlib.Omega.{arith}
-use Prim.Native.Nat.{◌+◌, ◌-◌}
+use Prim.Native.Nat.{◌+◌}
 use Rattle.text_pieces.proofs.Laws.{newline_here, newline_later, newline_one_later, newline_two_later, newline_three_later}
 use Rattle.text_pieces.proofs.newline_at.Goals as goal
 

@@ -1,7 +1,6 @@
 use native.Mathlib.Omega.{arith}
 use borrow.Author.Rules.{rules}
 use mathlib.Core.Path.{◌≡◌, refl}
-use Prim.Native.Nat.{◌-◌}
 use lib.ListN.{length, drop}
 use lib.Seq.{drop-length}
 use Rattle.text_pieces.specs.Pieces.{newline_at}

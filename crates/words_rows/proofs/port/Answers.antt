@@ -1,0 +1,12 @@
+-- `words_rows::port`: what a row was put together from, taken out again. Assumes nothing.
+use Prim.Native.Nat.{◌/◌, ◌^◌}
+use native.Mathlib.Omega.{arith}
+use lib.Bits.{mask_lt}
+use Rattle.words_rows.proofs.Taken.{port_of}
+use Rattle.words_rows.proofs.port.Goals as goal
+
+pub overflow_cast-result : goal.overflow_cast-result
+overflow_cast-result c = record { fits = omega (arith, mask_lt (c.args.row / 2 ^ 12) 3) }
+
+pub returns : goal.returns
+returns c = (λ part n h e. port_of c.args.row part n h e, mask_lt (c.args.row / 2 ^ 12) 3)
