@@ -16,7 +16,7 @@ pub const LEFT_OVER: u8 = 3;
 pub const SAME: u8 = 4;
 
 // What was found, and how many bytes of the answers a line that agrees takes.
-#[derive(Drop)]
+#[derive(Clone, Copy)]
 pub struct Judged {
     pub verdict: u8,
     pub taken: usize,

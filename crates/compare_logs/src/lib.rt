@@ -9,7 +9,7 @@ use compare_lines::SAME;
 use compare_pieces::LONGEST;
 
 // What was found in whole texts: the verdict, and from where to where the part lies that is handed back.
-#[derive(Drop)]
+#[derive(Clone, Copy)]
 pub struct Found {
     pub verdict: u8,
     pub from: usize,
@@ -31,7 +31,7 @@ fn line_at(answers: &[u8], verdict: u8, from: usize) -> Found
 }
 
 // A verdict, and where in the answers that were left it was found.
-#[derive(Drop)]
+#[derive(Clone, Copy)]
 struct Place {
     verdict: u8,
     from: usize,

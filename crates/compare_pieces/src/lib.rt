@@ -14,7 +14,7 @@ pub const LONGEST: usize = 26;
 pub const ENOUGH: usize = 64;
 
 // What a call came to: the verdict, or SAME where there is none yet; how many bytes of the next event are held; how much of both pieces is done with; how many lines agree; and where the line ends that was expected last.
-#[derive(Drop)]
+#[derive(Clone, Copy)]
 pub struct Met {
     pub verdict: u8,
     pub len: usize,

@@ -17,7 +17,7 @@ pub const PART24: u8 = 0;
 pub const PART34: u8 = 1;
 
 // The device: its part's number, and its state: one byte for each command number beside the pin sets, the pointer, the bus state, the address choice, the status set, the line, the pointer's mode, the Device ID's number and the place of its byte that is told next.
-#[derive(Drop)]
+#[derive(Clone, Copy)]
 pub struct Device {
     pub part: u8,
     pub file: [u8; 128],
@@ -33,14 +33,14 @@ pub struct Device {
 }
 
 // An answer, and the device after.
-#[derive(Drop)]
+#[derive(Clone, Copy)]
 pub struct Stepped {
     pub answer: Answer,
     pub device: Device,
 }
 
 // A refusal's number, 0 for none, and the device; where it was refused, one that every step refuses.
-#[derive(Drop)]
+#[derive(Clone, Copy)]
 pub struct Made {
     pub refusal: u8,
     pub device: Device,

@@ -10,21 +10,21 @@ use device_rules::{BAD_ARGUMENT, BAD_IMAGE, NONE};
 use map::LAST_NUMBER;
 
 // What a device drives, at one of the two levels: a refusal's number, 0 for none, and the pins, none where it was refused.
-#[derive(Drop)]
+#[derive(Clone, Copy)]
 pub struct Driven {
     pub refusal: u8,
     pub pins: u64,
 }
 
 // INT: a refusal's number, 0 for none, and whether it is asserted.
-#[derive(Drop)]
+#[derive(Clone, Copy)]
 pub struct Line {
     pub refusal: u8,
     pub asserted: bool,
 }
 
 // The byte of a register: a refusal's number, 0 for none, and the byte, 0 where it was refused.
-#[derive(Drop)]
+#[derive(Clone, Copy)]
 pub struct Shown {
     pub refusal: u8,
     pub byte: u8,

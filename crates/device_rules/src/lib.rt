@@ -4,7 +4,7 @@
 
 use pins::Sets;
 
-#[derive(Drop)]
+#[derive(Clone, Copy)]
 pub enum Answer {
     Nothing,
     Ack,
@@ -14,7 +14,7 @@ pub enum Answer {
 }
 
 // The state beside the register file.
-#[derive(Drop)]
+#[derive(Clone, Copy)]
 pub struct Rest {
     pub sets: Sets,
     pub pointer: u8,

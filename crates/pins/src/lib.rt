@@ -2,7 +2,7 @@
 #![tactic(auto)]
 
 // What is stored of the pins.
-#[derive(Drop)]
+#[derive(Clone, Copy)]
 pub struct Sets {
     pub level: u64,
     pub reference: u64,
@@ -11,7 +11,7 @@ pub struct Sets {
 }
 
 // The registers that events depend on.
-#[derive(Drop)]
+#[derive(Clone, Copy)]
 pub struct Sources {
     pub configuration: u64,
     pub mask: u64,

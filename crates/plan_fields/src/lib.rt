@@ -5,14 +5,14 @@ ghost use Rattle.std.specs.Prelude.{◌≡◌, List, [], ◌++◌, ℕ, ◌<◌}
 ghost use Rattle.plan_fields.specs.Asks.{byte_taken, digit_taken, with_digit, taken, Holds, Said};
 
 // One field of the line: its first sixteen bytes, how many there are (17 for more), the digit that waits (16 for none).
-#[derive(Drop)]
+#[derive(Clone, Copy)]
 pub struct Field {
     pub bytes: [u8; 16],
     pub count: u8,
     pub high: u8,
 }
 
-#[derive(Drop)]
+#[derive(Clone, Copy)]
 pub struct Reading {
     pub start: Field,
     pub goal: Field,

@@ -59,7 +59,7 @@ fn put_plan(out: &mut [u8], at: usize, pairs: &[u8]) -> usize
 pub const ROOM: usize = 135;
 
 // Where an answer ends, and the number of its refusal, 0 for a plan.
-#[derive(Drop)]
+#[derive(Clone, Copy)]
 pub struct Told {
     pub end: usize,
     pub refusal: u8,

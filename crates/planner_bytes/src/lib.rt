@@ -8,7 +8,7 @@ ghost use Rattle.planner_quiet.specs.Route.{mid_configuration, mid_output};
 ghost use Rattle.planner_bytes.specs.Bytes.{pin_in};
 
 // A setting as pin sets: bit i of each belongs to pin i; `kind` has each port's bit of the output port kind at all its pins.
-#[derive(Drop)]
+#[derive(Clone, Copy)]
 pub struct PinSets {
     pub output: u64,
     pub configuration: u64,

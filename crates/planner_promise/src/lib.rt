@@ -2,7 +2,7 @@
 // The number of writes, or the number of the refusal.
 #![tactic(auto)]
 
-#[derive(Drop)]
+#[derive(Clone, Copy)]
 pub enum Planned {
     Writes(usize),
     Refused(u8),

@@ -12,7 +12,7 @@ use planner_promise::{BAD_SETTING, BUFFER_SMALL};
 
 // What the planner knows of a part: its ports, the first register of each group, and the most that a setting's byte may be
 // in the output port kind and in the last port.
-#[derive(Drop)]
+#[derive(Clone, Copy)]
 pub struct Layout {
     pub ports: u8,
     pub output: u8,

@@ -67,7 +67,7 @@ pub fn answer_line(part: u8, line: &[u8], out: &mut [u8], at: usize) -> usize
 }
 
 // A line that has begun, of which 395 bytes are kept: no longer line is readable.
-#[derive(Drop)]
+#[derive(Clone, Copy)]
 pub struct Line {
     pub held: [u8; 395],
     pub len: usize,

@@ -4,7 +4,7 @@
 ghost use Rattle.std.specs.Prelude.{◌≡◌, ◌+◌, ◌<◌, ◌≤◌, ◌/◌, ◌%◌, length};
 ghost use Rattle.text.specs.Text.{starts_with, is_word, digit_of, number_of, field_of, digit_byte, hex_text, Wrote};
 
-#[derive(Drop)]
+#[derive(Clone, Copy)]
 pub enum Digits {
     Number(u64),
     None,

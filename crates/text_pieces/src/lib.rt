@@ -43,7 +43,7 @@ pub fn newline_at(piece: &[u8]) -> usize
 }
 
 // The first line of a piece: how many bytes of it are there, and how many the piece gives up for it.
-#[derive(Drop)]
+#[derive(Clone, Copy)]
 pub struct Line {
     pub len: usize,
     pub taken: usize,

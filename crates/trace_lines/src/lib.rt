@@ -16,7 +16,7 @@ const LONGEST: usize = 32;
 const MOST_CHOICE: u64 = 3;
 
 // What a line says. Parts: 0 the 24-pin part, 1 its sister. Event kinds: 0 START, 1 STOP, 2 byte, 3 fetch, 4 levels, 5 hardware reset.
-#[derive(Drop)]
+#[derive(Clone, Copy)]
 pub enum Line {
     Device { part: u64, choice: u8, levels: u64 },
     Event { kind: u32, arg: u64 },

@@ -11,14 +11,14 @@ ghost use Rattle.trace_joins.specs.Readings.{reading_of};
 ghost use Rattle.trace_logs.specs.Pieces.{opened, given, first_given, Gives, Ends};
 
 // How many bytes of the line that has begun are held, and where the answers end.
-#[derive(Drop)]
+#[derive(Clone, Copy)]
 pub struct Fed {
     pub len: usize,
     pub end: usize,
 }
 
 // How many bytes are held after a line, where its answer ends, and how much of the piece it took.
-#[derive(Drop)]
+#[derive(Clone, Copy)]
 pub struct Took {
     pub len: usize,
     pub end: usize,

@@ -16,7 +16,7 @@ const LONGEST: usize = 32;
 const LAST_BYTE: u64 = 0xff;
 
 // What a line says.
-#[derive(Drop)]
+#[derive(Clone, Copy)]
 pub enum Said {
     Device {
         part: u64,

@@ -1,7 +1,6 @@
 -- `words_identity::tell`: the byte at the place, and the place steps, or Deaf. Assumes nothing.
 use mathlib.Core.Path.{refl, ap, ◌∙◌}
 use native.Mathlib.Omega.{arith}
-use borrow.Author.Tests.{not-true, not-false}
 use Rattle.map.specs.Map.{part_of}
 use Rattle.device_rules.specs.Device.{fetch_in}
 use Rattle.device_rules.specs.declared.Answer.TheVariants.{Byte}
@@ -15,7 +14,7 @@ unfolding fetch_in
 returns-then-not-acknowledged c =
     let a = c.args in
     let w = a.words.now in
-    let deaf = not-true a.acknowledged c.if-not-acknowledged.true in
+    let deaf = c.if-not-acknowledged.true in
     λ k packed bus. went k w packed (Byte c.byte_told.result) 7 (omega arith) (ap answer_at c.goes.ensures.0 ∙ c.read-answer.ensures) c.goes.ensures.1
     (fetched_in_lem (part_of k) (state_in (part_of k) w) a.acknowledged 11 bus (same_outcome (ap Byte c.byte_told.ensures) (simp deaf refl)))
 
@@ -27,7 +26,7 @@ unfolding fetch_in
 returns c =
     let a = c.args in
     let w = a.words.now in
-    let on = not-false a.acknowledged c.if-not-acknowledged.false in
+    let on = c.if-not-acknowledged.false in
     λ k packed bus.
     rw c.read-answer.ensures
     (told k w packed (Byte c.byte_told.result) c.next_place.result c.next_place.ensures.1 refl

@@ -1,5 +1,4 @@
 -- `words_kept::write`: the register's own write, and what is kept of the interrupt after it (`rung`, `unrung`). Assumes nothing.
-use borrow.Author.Rules.{rules}
 use mathlib.Core.Path.{sym, ◌∙◌}
 use lib.ListN.{get_or}
 use Rattle.map.specs.Map.{part_of}
@@ -9,30 +8,23 @@ use Rattle.words.proofs.Sound.{mapped}
 use Rattle.words.proofs.Images.{file_length}
 use Rattle.words_rows.proofs.Taken.{known_small}
 use Rattle.words_state.proofs.Left.{rung, unrung}
-use Rattle.words_kept.proofs.write.Statement.{statement}
-use Rattle.words_kept.proofs.write.Tie as tie
+use Rattle.words_kept.proofs.write.Goals as goal
 
-returns : tie.Need-returns
-returns c =
-    let wrote = c.before.before.before.before in
-    let a = wrote.before.before.args in
+pub returns-then-rings : goal.returns-then-rings
+returns-then-rings c =
+    let a = c.args in
     let w = a.words.now in
     λ k packed e.
-    let h = wrote.write-register.ensures k (get_or w 21 0) packed.pointer_known e packed.fit in
+    let h = c.write_register.ensures k (get_or w 21 0) packed.pointer_known e packed.fit in
     rung k w _ h (c.keep.ensures k h.fit)
 
-returns_2 : tie.Need-returns-2
-returns_2 c =
-    let wrote = c.before.before in
-    let a = wrote.before.before.args in
+pub returns-else-rings : goal.returns-else-rings
+returns-else-rings c =
+    let a = c.args in
     let w = a.words.now in
     let n = get_or w 21 0 in
     λ k packed e.
     let hn = known_small a.row k n packed.pointer_known e in
-    unrung k w _ (wrote.write-register.ensures k n packed.pointer_known e packed.fit)
+    unrung k w _ (c.write_register.ensures k n packed.pointer_known e packed.fit)
     (unrung_written (part_of k) (core_in (part_of k) w) (interrupt_in w) packed.right (mapped k) (file_length (part_of k) w) n hn a.value
-    (sym (c.before.rings.ensures k n hn e) ∙ c.if1.false))
-
-pub write_spec : {M : Type 1} → statement M
-write_spec =
-    tie.close (tie.spec (λ c κs. search rules) (λ c κs. search rules) (λ c κs. search rules) returns returns_2)
+    (sym (c.rings.ensures k n hn e) ∙ c.if-rings.false))
