@@ -63,7 +63,7 @@ impl Device {
     // How many bytes a buffer has at least that has room for every plan.
     pub fn plan_room() -> usize
         ensures room { result ≡ 32 }
-        ensures* bound { (⟦Device::WRITE_BOUND⟧).entry >>= λ b. ⌜ result ≡ 2 * b ⌝ }
+        ensures bound { result ≡ 2 * Device.WRITE_BOUND }
     {
         device_rooms::plan_room()
     }
@@ -71,7 +71,7 @@ impl Device {
     // And for every plan of the sister.
     pub fn plan_room34() -> usize
         ensures room { result ≡ 52 }
-        ensures* bound { (⟦Device::WRITE_BOUND34⟧).entry >>= λ b. ⌜ result ≡ 2 * b ⌝ }
+        ensures bound { result ≡ 2 * Device.WRITE_BOUND34 }
     {
         device_rooms::plan_room34()
     }

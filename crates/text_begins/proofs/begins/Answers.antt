@@ -1,7 +1,6 @@
 use borrow.Author.Rules.{rules}
 use native.Mathlib.Omega.{arith}
 use mathlib.Core.Path.{refl, sym, ◌∙◌}
-use Prim.Native.Nat.{◌-◌}
 use Rattle.text.proofs.Laws.{starts_short}
 use Rattle.text_begins.proofs.Laws.{eight_on, eight_differ, last_told}
 use Rattle.text_begins.proofs.begins.Goals as goal

@@ -1,5 +1,4 @@
 -- `words_fetches::fetch`: in Sending what the register shows and does, elsewhere nothing. Assumes nothing.
-use borrow.Author.Rules.{rules}
 use mathlib.Core.Path.{◌≡◌, refl, sym, ap}
 use mathlib.Core.Bool.{Bool, true, false, cond}
 use mathlib.Core.List.{List}
@@ -23,8 +22,7 @@ use Rattle.words_rows.proofs.Taken.{step_known, known_inside, its_kind, low_rule
 use Rattle.words_state.specs.Packed.{state_in, Packed, Becomes, Leaves}
 use Rattle.words_state.proofs.Left.{unrung, packed_becomes, holds_bus, holds_pointer}
 use Rattle.words_state.proofs.Standing.{named, known_row}
-use Rattle.words_fetches.proofs.fetch.Statement.{statement}
-use Rattle.words_fetches.proofs.fetch.Tie as tie
+use Rattle.words_fetches.proofs.fetch.Goals as goal
 
 -- the register was fetched: what is left by whether the master acknowledged
 went_on : (c : ℕ) (w u : List ℕ) → Packed c w → Becomes c w u (fetched (part_of c) (core_in (part_of c) w) (get_or w 21 0)) → get_or w 22 0 ≡ 4
@@ -42,70 +40,39 @@ went_on c w u packed becomes bus b shown false e =
     (fetched_in_lem (part_of c) (state_in (part_of c) w) false 4 bus
     (same_outcome (ap Byte shown) (same_state refl (sym (kept_fetched (part_of c) (core_in (part_of c) w) (interrupt_in w) packed.right (get_or w 21 0))) refl refl refl refl refl))))
 
-returns : tie.Need-returns
-returns c = λ k packed e. c.fetch-elsewhere.ensures k packed c.before.before.if1.true
+pub returns-then-words-ne-SENDING : goal.returns-then-words-ne-SENDING
+returns-then-words-ne-SENDING c = λ k packed e. c.fetch_elsewhere.ensures k packed c.if-words-ne-SENDING.true
 
-was_fetched_requires : tie.Need-was-fetched-requires
-was_fetched_requires c κs =
-    let settle = c.before in
-    let start = settle.before.before.before.before.before.before.before.before.before in
-    let standing = start.requires in
-    named _ _ (packed_becomes _ start.args.words.now standing.packed (settle.settle.ensures _ standing.packed standing.row_is))
+pub was_fetched-requires : goal.was_fetched-requires
+was_fetched-requires c =
+    let standing = c.requires in
+    named _ _ (packed_becomes _ c.args.words.now standing.packed (c.settle.ensures _ standing.packed standing.row_is))
 
-returns_2 : tie.Need-returns-2
-returns_2 c =
-    let settle = c.before.before in
-    let read = settle.before.before in
-    let show = read.before in
-    let then = show.before.before in
-    let rule = then.before in
-    let sends = rule.before in
-    let a = sends.before.before.args in
+pub returns-then-rule-eq-INPUT : goal.returns-then-rule-eq-INPUT
+returns-then-rule-eq-INPUT c =
+    let a = c.args in
     let w = a.words.now in
     let n = get_or w 21 0 in
     λ k packed e.
     let hn : n < 128 = known_small (part_of k) n packed.pointer_known in
-    let input = its_kind k n _ hn (rule.rule.ensures k n hn e) Input then.if2.true in
-    let becomes = settle.settle.ensures k packed e in
-    rw (c.was-fetched.ensures.0, read.read.ensures)
-    (went_on k w _ packed becomes sends.if1.false _ ((show.show-inputs.ensures k n packed.pointer_known e).0 input) a.acknowledged
-    (c.was-fetched.ensures.1 k (packed_becomes k w packed becomes) (rw (becomes.rest 21 (omega arith)) e)))
+    let input = its_kind k n _ hn (c.rule.ensures k n hn e) Input c.if-rule-eq-INPUT.true in
+    let becomes = c.settle.ensures k packed e in
+    rw (c.was_fetched.ensures.0, c.read-answer.ensures)
+    (went_on k w _ packed becomes c.if-words-ne-SENDING.false _ ((c.show_inputs.ensures k n packed.pointer_known e).0 input) a.acknowledged
+    (c.was_fetched.ensures.1 k (packed_becomes k w packed becomes) (rw (becomes.rest 21 (omega arith)) e)))
 
-show_requires : tie.Need-show-requires
-show_requires c κs = known_inside (known_row _ _ c.before.before.before.before.before.requires)
+pub show-requires : goal.show-requires
+show-requires c = known_inside (known_row _ _ c.requires)
 
-returns_3 : tie.Need-returns-3
-returns_3 c =
-    let read = c.before.before in
-    let show = read.before in
-    let else = show.before.before in
-    let rule = else.before in
-    let sends = rule.before in
-    let a = sends.before.before.args in
+pub returns : goal.returns
+returns c =
+    let a = c.args in
     let w = a.words.now in
     let n = get_or w 21 0 in
     λ k packed e.
     let hn : n < 128 = known_small (part_of k) n packed.pointer_known in
-    let other : code (kind_at (part_of k) n) ≡ 1 → ⊥ = λ z. else.if2.false (low_rule k n _ hn (rule.rule.ensures k n hn e) 1 (omega arith) z) in
+    let other : code (kind_at (part_of k) n) ≡ 1 → ⊥ = λ z. c.if-rule-eq-INPUT.false (low_rule k n _ hn (c.rule.ensures k n hn e) 1 (omega arith) z) in
     let becomes = unrung k w w (other_fetched (part_of k) (sound k) w packed.fit n hn other) (unrung_fetched (part_of k) (core_in (part_of k) w) (interrupt_in w) packed.right n (ne_eqb _ 1 other)) in
-    rw (c.was-fetched2.ensures.0, read.read2.ensures)
-    (went_on k w w packed becomes sends.if1.false _ (show.show.ensures k n packed.pointer_known e packed.fit) a.acknowledged
-    (c.was-fetched2.ensures.1 k packed e))
-
-pub fetch_spec : {M : Type 1} → statement M
-fetch_spec =
-    tie.close
-    (tie.spec
-    (λ c. search rules)
-    (λ c κs. search rules)
-    returns
-    (λ c κs. search rules)
-    (λ c κs. search rules)
-    (λ c κs. search rules)
-    (λ c κs. search rules)
-    was_fetched_requires
-    returns_2
-    show_requires
-    (λ c κs. search rules)
-    (λ c κs. search rules)
-    returns_3)
+    rw (c.was_fetched-2.ensures.0, c.read-answer-2.ensures)
+    (went_on k w w packed becomes c.if-words-ne-SENDING.false _ (c.show.ensures k n packed.pointer_known e packed.fit) a.acknowledged
+    (c.was_fetched-2.ensures.1 k packed e))

@@ -6,20 +6,16 @@ use mathlib.Core.Path.{◌≡◌, ◌∙◌}
 use lib.ListN.{length}
 use Rattle.text.proofs.Laws.{wrote_byte, wrote_length}
 use Rattle.text_answers.proofs.Laws.{columns_kept, columns_long, digits_few}
-use Rattle.text_answers.proofs.keep.Statement.{statement}
-use Rattle.text_answers.proofs.keep.Tie as tie
+use Rattle.text_answers.proofs.keep.Goals as goal
 
-element_write_kept : tie.Need-element-write-kept
-element_write_kept c =
-    let s = c.before.before.args in
-    omega (arith, c.put-columns.ensures.ends, columns_long (part_of s.part) s.int s.low s.high, digits_few s.part)
+pub bounds-kept-end : goal.bounds-kept-end
+bounds-kept-end c =
+    let s = c.args in
+    omega (arith, c.put_columns-end.ensures.ends, columns_long (part_of s.part) s.int s.low s.high, digits_few s.part)
 
-returns : tie.Need-returns
+pub returns : goal.returns
 returns c =
-    let s = c.before.before.args in
-    let w = wrote_byte c.put-columns.ensures 0x0a in
+    let s = c.args in
+    let w = wrote_byte c.put_columns-end.ensures 0x0a in
     let all : length s.kept.now ≡ 22 = search rules in
     (columns_kept (part_of s.part) s.kept.now s.int s.low s.high (omega (arith, all, digits_few s.part)) w, wrote_length w ∙ all)
-
-pub keep_spec : {M : Type 1} → statement M
-keep_spec = tie.close (tie.spec (λ c κs. search rules) element_write_kept returns)
