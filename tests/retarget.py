@@ -29,6 +29,7 @@ define noundef i32 @power(i64 noundef %a0, ptr noundef %a1) #0 {
 start:
   %r0 = alloca [16 x i8], align 8
   call void @llvm.memmove.p0.p0.i64(ptr %r0, ptr %a1, i64 16, i1 false)
+  %r5 = icmp eq ptr %a1, null
   %r1 = call i1 @"shelf::is_small"(i64 %a0)
   br i1 %r1, label %then.1, label %else.2
 
@@ -60,7 +61,7 @@ then.2:                                           ; preds = %start
 ; Function Attrs: nocallback nofree nounwind willreturn memory(argmem: readwrite)
 declare void @llvm.memmove.p0.p0.i64(ptr writeonly captures(none), ptr readonly captures(none), i64, i1 immarg) #1
 
-attributes #0 = { nounwind "probe-stack"="inline-asm" "target-cpu"="x86-64" }
+attributes #0 = { nounwind "probe-stack"="inline-asm" "stack-probe-size"="3072" "target-cpu"="x86-64" }
 attributes #1 = { nocallback nofree nounwind willreturn memory(argmem: readwrite) }
 
 !llvm.ident = !{!0}
@@ -85,7 +86,7 @@ RETARGETED = {
     'target triple = "x86_64-unknown-linux-gnu"': 'target triple = "riscv64-unknown-linux-gnu"',
     'define noundef i32 @power(i64 noundef %a0, ptr noundef %a1) #0 {': 'define noundef signext i32 @power(i64 noundef %a0, ptr noundef %a1) #0 {',
     'define noundef i32 @small(i32 noundef %a0) #0 {': 'define noundef signext i32 @small(i32 noundef signext %a0) #0 {',
-    'attributes #0 = { nounwind "probe-stack"="inline-asm" "target-cpu"="x86-64" }': 'attributes #0 = { nounwind }',
+    'attributes #0 = { nounwind "probe-stack"="inline-asm" "stack-probe-size"="3072" "target-cpu"="x86-64" }': 'attributes #0 = { nounwind }',
 }
 
 # What a module says of extensions itself does not matter: those of the target are put in their place.
@@ -112,7 +113,10 @@ UNKNOWN = [
         '  store double 0.000000e+00, ptr %a1, align 8',
         '  store [2 x i64] zeroinitializer, ptr %a1, align 8',
         '  store i64 ptrtoint (ptr @powers to i64), ptr %a1, align 8',
-        '  %r2 = icmp eq ptr %a1, null',
+        '  %r2 = icmp eq ptr %r0, null',
+        '  %r2 = icmp eq ptr %a1, %r0',
+        '  %r2 = icmp ne ptr %a1, null',
+        '  %r2 = icmp ugt ptr %a1, null',
         '  %r2 = icmp ult ptr %a1, @powers',
         '  %r2 = addrspacecast ptr %a1 to ptr addrspace(1)',
         '  %r2 = bitcast i64 %a0 to double',

@@ -22,7 +22,7 @@ PASSED = rf'(?:{ARGUMENT} {VALUE}(?:, {ARGUMENT} {VALUE})*)?'
 WHERE = r'label %[\w.]+'
 
 # What x86-64 alone knows of a function: its processor, and how it looks for the end of the stack.
-OF_X86_64 = re.compile(r' "(?:target-cpu|target-features|tune-cpu|probe-stack)"="[^"]*"')
+OF_X86_64 = re.compile(r' "(?:target-cpu|target-features|tune-cpu|probe-stack|stack-probe-size)"="[^"]*"')
 # Copies and fills, which a compiler does itself or asks of the C library that every program has.
 INTRINSIC = r'@llvm\.(?:memmove\.p0\.p0\.i64|memset\.p0\.i64)'
 
@@ -48,6 +48,8 @@ FORMS = [re.compile(form) for form in (
     rf'{NAME} = load {SCALAR}, ptr {VALUE}, align \d+',
     rf'store {SCALAR} {VALUE}, ptr {VALUE}, align \d+',
     rf'{NAME} = getelementptr {FLAGS}i8, ptr {VALUE}, i64 {VALUE}',
+    # whether C passed an address at all: none is zero on each processor
+    rf'{NAME} = icmp eq ptr %a\d+, null',
     # numbers
     rf'{NAME} = (?:add|sub|mul|udiv|urem|and|or|xor|shl|lshr) {FLAGS}{INTEGER} {VALUE}, {VALUE}',
     rf'{NAME} = icmp (?:eq|ne|ult|ule) {INTEGER} {VALUE}, {VALUE}',
