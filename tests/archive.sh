@@ -20,13 +20,25 @@ cat >"$room/crates/ghixramel/src/lib.rt" <<'RT'
 // What the exports call.
 #![tactic(auto)]
 
-pub fn last(bytes: &[u8], last: &mut [u8; 1]) -> u32 {
+// A pair, in which the last byte is the second number.
+#[derive(Clone, Copy)]
+pub struct Last {
+    pub refusal: u8,
+    pub byte: u64,
+}
+
+pub fn last(bytes: &[u8]) -> Last {
     let count = bytes.len();
     if count == 0 {
-        return 1;
+        return Last {
+            refusal: 1,
+            byte: 0,
+        };
     }
-    last[0] = bytes[count - 1];
-    0
+    Last {
+        refusal: 0,
+        byte: bytes[count - 1] as u64,
+    }
 }
 RT
 cat >"$room/crates/ghixramel_c/src/lib.rt" <<'RT'
@@ -46,7 +58,11 @@ pub extern "C" fn ghixramel_wide(number: u32, wide: &mut [u64; 1]) -> u32 {
 
 #[unsafe(no_mangle)]
 pub extern "C" fn ghixramel_last(bytes: &[u8], last: &mut [u8; 1]) -> u32 {
-    ghixramel::last(bytes, last)
+    let found = ghixramel::last(bytes);
+    if found.refusal == 0 {
+        last[0] = (found.byte % 256) as u8;
+    }
+    found.refusal as u32
 }
 RT
 cat >"$room/include/ghixramel.h" <<'C'
