@@ -1,14 +1,12 @@
 # shellcheck shell=bash
-# C programs with the Rattle kit's compiler and C library; sourced from the root of the repository.
-# Programs are compiled for x86-64; on Arm they run under the kit's emulator.
+# C programs with the Rattle kit's compiler and C library, for x86-64; sourced from the root of the repository.
 
-kit=$(dirname "$(dirname "$(rt doc)")")
-tools=$kit/on/$(uname -m)/toolchain
+kit=$(dirname "$(rt doc)")
+tools=$kit/toolchain
 library=target/staticlib/libghixramel.a
 
 # "${launch[@]}" PROGRAM ARGUMENTS runs a program
 launch=("$tools/lib/ld-linux-x86-64.so.2" --library-path "$tools/lib")
-[ ! -x "$tools/bin/qemu-x86_64" ] || launch=("$tools/bin/qemu-x86_64" "${launch[@]}")
 
 # the library that include/ghixramel.h describes, proved and built if it is not there or older than its sources
 need_library() {

@@ -13,30 +13,56 @@ fail() {
 
 python3 tests/retarget.py || bad=1
 
-mkdir -p "$room/crates/ghixramel/src" "$room/include"
+mkdir -p "$room/crates/ghixramel/src" "$room/crates/ghixramel_c/src" "$room/include"
 cp -R tools c tests "$room"
-echo 'ghixramel:' >"$room/crates.txt"
+printf '%s\n' 'ghixramel_c staticlib: ghixramel' 'ghixramel:' >"$room/crates.txt"
 cat >"$room/crates/ghixramel/src/lib.rt" <<'RT'
+// What the exports call.
+#![tactic(auto)]
+
+// A pair, in which the last byte is the second number.
+#[derive(Clone, Copy)]
+pub struct Last {
+    pub refusal: u8,
+    pub byte: u64,
+}
+
+pub fn last(bytes: &[u8]) -> Last {
+    let count = bytes.len();
+    if count == 0 {
+        return Last {
+            refusal: 1,
+            byte: 0,
+        };
+    }
+    Last {
+        refusal: 0,
+        byte: bytes[count - 1] as u64,
+    }
+}
+RT
+cat >"$room/crates/ghixramel_c/src/lib.rt" <<'RT'
 // Numbers in each way that C passes them.
-#[no_mangle]
+#![tactic(auto)]
+
+#[unsafe(no_mangle)]
 pub extern "C" fn ghixramel_low(number: u64) -> u32 {
     (number % 4294967296) as u32
 }
 
-#[no_mangle]
+#[unsafe(no_mangle)]
 pub extern "C" fn ghixramel_wide(number: u32, wide: &mut [u64; 1]) -> u32 {
     wide[0] = number as u64;
     0
 }
 
-#[no_mangle]
+#[unsafe(no_mangle)]
 pub extern "C" fn ghixramel_last(bytes: &[u8], last: &mut [u8; 1]) -> u32 {
-    let count = bytes.len();
-    if count == 0 {
-        return 1;
+    let found = ghixramel::last(bytes);
+    if found.refusal == 0 {
+        last[0] = (found.byte % 256) as u8;
     }
-    last[0] = bytes[count - 1];
-    0
+    found.refusal as u32
 }
 RT
 cat >"$room/include/ghixramel.h" <<'C'
@@ -153,8 +179,14 @@ want_refusal wasm32 'has a form that is not known to mean the same on another pr
 cp header include/ghixramel.h
 
 # what is not proved makes no archive, for no processor
-echo '#[no_mangle] pub extern "C" fn ghixramel_next(number: u32) -> u32 { number + 1 }' >>crates/ghixramel/src/lib.rt
+cat >>crates/ghixramel_c/src/lib.rt <<'RT'
+
+#[unsafe(no_mangle)]
+pub extern "C" fn ghixramel_next(number: u32) -> u32 {
+    number + 1
+}
+RT
 echo 'uint32_t ghixramel_next(uint32_t number);' >>include/ghixramel.h
-want_refusal wasm32 'NOT PROVED\|not proved'
+want_refusal wasm32 'it is not proved that the sum fits its type'
 [ -e target/staticlib/libghixramel.a ] && fail "an unproved archive for x86-64 stands"
 exit $bad

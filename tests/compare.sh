@@ -21,7 +21,7 @@ done
 same "examples/bench.answers" $'departs\n-\t0\t000000\t000000' "$(./ghixramel compare examples/incident.trace examples/bench.answers 2>/dev/null)"
 
 # it stands now; every pair is a run of its own, and the launcher would look each time whether it is to be built
-program=("${launch[@]}" target/bin/compare)
+program=("${launch[@]}" crates/compare/out/compare)
 header=$'answer\tint\tlow\thigh'
 events=$room/events answers=$room/answers
 printf 'device\t2\t000000\nstart\nbyte\t44\n' >"$events"

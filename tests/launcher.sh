@@ -12,22 +12,22 @@ fail() {
 
 mkdir -p "$room/shelf/crates/copy/src" "$room/elsewhere"
 cp "$root/ghixramel" "$room/shelf/ghixramel"
-echo 'copy: io libc os' >"$room/shelf/crates.txt"
+echo 'copy:' >"$room/shelf/crates.txt"
 cat >"$room/shelf/crates/copy/src/main.rt" <<'RT'
 // Writes its first argument and then what one read of its input gives.
-fn main() {
-    let mut word = io::buffer();
-    let length = os::arg(1, &mut word);
-    if os::errno() == 0 {
-        io::write_all(libc::STDOUT_FILENO, &word[..length]);
+#![tactic(auto)]
+
+use std::env;
+use std::io;
+use std::io::Read;
+
+fn main(rt: HostRuntime) -> io::Result<()> {
+    for word in env::args(&rt)?.skip(1).take(1) {
+        rt.write_all(word.as_bytes())?;
     }
     let mut buf = [0u8; 512];
-    let got = libc::read(0, &mut buf);
-    if got < 0 {
-        return;
-    }
-    let n = io::count(got, &buf);
-    io::write_all(libc::STDOUT_FILENO, &buf[..n]);
+    let n = rt.stdin().read(&mut buf)?;
+    rt.write_all(&buf[..n])
 }
 RT
 

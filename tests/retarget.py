@@ -25,10 +25,20 @@ start:
 }
 
 ; Function Attrs: nounwind
+define internal noundef { i8, i64 } @"shelf::half"(ptr noundef %a0) #0 {
+start:
+  %r0 = load { i8, i64 }, ptr %a0, align 8
+  ret { i8, i64 } %r0
+}
+
+; Function Attrs: nounwind
 define noundef i32 @power(i64 noundef %a0, ptr noundef %a1) #0 {
 start:
   %r0 = alloca [16 x i8], align 8
   call void @llvm.memmove.p0.p0.i64(ptr %r0, ptr %a1, i64 16, i1 false)
+  %r5 = icmp eq ptr %a1, null
+  %r6 = call { i8, i64 } @"shelf::half"(ptr %r0)
+  %r7 = extractvalue { i8, i64 } %r6, 1
   %r1 = call i1 @"shelf::is_small"(i64 %a0)
   br i1 %r1, label %then.1, label %else.2
 
@@ -60,7 +70,7 @@ then.2:                                           ; preds = %start
 ; Function Attrs: nocallback nofree nounwind willreturn memory(argmem: readwrite)
 declare void @llvm.memmove.p0.p0.i64(ptr writeonly captures(none), ptr readonly captures(none), i64, i1 immarg) #1
 
-attributes #0 = { nounwind "probe-stack"="inline-asm" "target-cpu"="x86-64" }
+attributes #0 = { nounwind "probe-stack"="inline-asm" "stack-probe-size"="3072" "target-cpu"="x86-64" }
 attributes #1 = { nocallback nofree nounwind willreturn memory(argmem: readwrite) }
 
 !llvm.ident = !{!0}
@@ -69,7 +79,7 @@ attributes #1 = { nocallback nofree nounwind willreturn memory(argmem: readwrite
 !1 = !{}
 '''
 
-HEADER = '''target datalayout = "e-m:e-p:64:64-n32:64"
+HEADER = '''target datalayout = "e-m:e-p:64:64-i64:64-n32:64"
 target triple = "riscv64-unknown-linux-gnu"
 
 @calls = constant [2 x ptr] [ptr @power, ptr @small], align 8
@@ -81,11 +91,11 @@ declare signext i32 @small(i32 noundef signext) #0
 
 # What the module is on that target: these lines are others, and no more.
 RETARGETED = {
-    'target datalayout = "e-m:e-i64:64"': 'target datalayout = "e-m:e-p:64:64-n32:64"',
+    'target datalayout = "e-m:e-i64:64"': 'target datalayout = "e-m:e-p:64:64-i64:64-n32:64"',
     'target triple = "x86_64-unknown-linux-gnu"': 'target triple = "riscv64-unknown-linux-gnu"',
     'define noundef i32 @power(i64 noundef %a0, ptr noundef %a1) #0 {': 'define noundef signext i32 @power(i64 noundef %a0, ptr noundef %a1) #0 {',
     'define noundef i32 @small(i32 noundef %a0) #0 {': 'define noundef signext i32 @small(i32 noundef signext %a0) #0 {',
-    'attributes #0 = { nounwind "probe-stack"="inline-asm" "target-cpu"="x86-64" }': 'attributes #0 = { nounwind }',
+    'attributes #0 = { nounwind "probe-stack"="inline-asm" "stack-probe-size"="3072" "target-cpu"="x86-64" }': 'attributes #0 = { nounwind }',
 }
 
 # What a module says of extensions itself does not matter: those of the target are put in their place.
@@ -106,13 +116,24 @@ UNKNOWN = [
         '  %r2 = alloca i8, i64 %a0, align 1',
         '  %r2 = load <2 x i64>, ptr %a1, align 16',
         '  %r2 = load { ptr, i64 }, ptr %a1, align 8',
+        '  %r2 = load { i64, ptr }, ptr %a1, align 8',
+        '  %r2 = load { i8, i64, i8 }, ptr %a1, align 8',
+        '  %r2 = load <{ i8, i64 }>, ptr %a1, align 8',
+        '  %r2 = extractvalue { ptr, i64 } %r6, 1',
+        '  %r2 = extractvalue { i8, i64 } %r6, 2',
+        '  %r2 = insertvalue { i8, i64 } %r6, i64 %a0, 1',
+        '  %r2 = call { ptr, i64 } @"shelf::half"(ptr %r0)',
+        '  store { i8, i64 } %r6, ptr %a1, align 8',
         '  %r2 = load i128, ptr %a1, align 16',
         '  %r2 = load volatile i64, ptr %a1, align 8',
         '  %r2 = load atomic i64, ptr %a1 seq_cst, align 8',
         '  store double 0.000000e+00, ptr %a1, align 8',
         '  store [2 x i64] zeroinitializer, ptr %a1, align 8',
         '  store i64 ptrtoint (ptr @powers to i64), ptr %a1, align 8',
-        '  %r2 = icmp eq ptr %a1, null',
+        '  %r2 = icmp eq ptr %r0, null',
+        '  %r2 = icmp eq ptr %a1, %r0',
+        '  %r2 = icmp ne ptr %a1, null',
+        '  %r2 = icmp ugt ptr %a1, null',
         '  %r2 = icmp ult ptr %a1, @powers',
         '  %r2 = addrspacecast ptr %a1 to ptr addrspace(1)',
         '  %r2 = bitcast i64 %a0 to double',
@@ -179,7 +200,12 @@ OTHERWISE = [
     ('declare signext i32 @small(i32 noundef signext) #0\n', '', 'not both declared and exported: small'),
     ('@small(i32 noundef signext)', '@smaller(i32 noundef signext)', 'not both declared and exported: small smaller'),
     ('target triple = "riscv64-unknown-linux-gnu"\n', '', "0 lines begin with 'target triple'"),
+    ('p:64:64-i64:64', 'p:64:64-i64:32', 'numbers of 64 bits are not at multiples of eight bytes'),
+    ('p:64:64-i64:64', 'p:64:64', 'numbers of 64 bits are not at multiples of eight bytes'),
 ]
+
+# An export that returns a pair, as no C function of the header does.
+PAIR = ('define noundef i32 @power(i64', 'define noundef { i8, i64 } @power(i64', 'passed in a way that is not known')
 
 failures = 0
 
@@ -228,8 +254,9 @@ def main():
         want_stop(new, spoiled(MODULE, old, new), HEADER, 'has a form that is not known to mean the same on another processor: ' + new.strip())
     for old, new, said in OTHERWISE:
         want_stop(new or 'without ' + old, MODULE, spoiled(HEADER, old, new), said)
+    want_stop('an export of a pair', spoiled(MODULE, *PAIR[:2]), HEADER, PAIR[2])
     want_stop('two data layouts', spoiled(MODULE, 'source_filename = "rattle"', 'target datalayout = "e"'), HEADER, "2 lines begin with 'target datalayout'")
-    print('retarget: %d modules and headers, %d failed' % (len(UNKNOWN) + len(OTHERWISE) + 3, failures))
+    print('retarget: %d modules and headers, %d failed' % (len(UNKNOWN) + len(OTHERWISE) + 4, failures))
     return failures != 0
 
 

@@ -3,26 +3,28 @@
 MODULE.ll is the module that the kit hands to its compiler for x86-64. HEADER.ll is what that compiler makes of include/ghixramel.h
 for the other processor: its data layout, its triple, and how C there passes each argument and result. These three are put into the
 module; its code stays as it is. That keeps its meaning only in a module whose code says nothing of a pointer's width, so every line
-has to be of a form listed here: addresses are counted in bytes, memory holds integers and pointers, constant tables hold
-integers. Any other line, and any call that C sees otherwise than the module has it, stops the program."""
+has to be of a form listed here: addresses are counted in bytes, memory holds integers and pointers, pairs and constant
+tables hold integers. Any other line, and any call that C sees otherwise than the module has it, stops the program."""
 
 import re
 import sys
 
 INTEGER = r'i(?:1|8|16|32|64)'
 SCALAR = rf'(?:{INTEGER}|ptr)'
+# Two integers, as functions of the module return them to one another.
+PAIR = rf'\{{ {INTEGER}, {INTEGER} \}}'
 NAME = r'[@%](?:[\w.]+|"[^"]+")'
 FUNCTION = r'@(?:[\w.]+|"[^"]+")'
 VALUE = rf'(?:{NAME}|-?\d+|true|false)'
 EXTENSION = r'(?:signext|zeroext)'
 FLAGS = r'(?:(?:inbounds|nuw) )*'
 ARGUMENT = rf'{SCALAR}(?: noundef| {EXTENSION})*'
-RESULT = rf'(?:noundef |{EXTENSION} )*(?:{SCALAR}|void)'
+RESULT = rf'(?:noundef |{EXTENSION} )*(?:{SCALAR}|{PAIR}|void)'
 PASSED = rf'(?:{ARGUMENT} {VALUE}(?:, {ARGUMENT} {VALUE})*)?'
 WHERE = r'label %[\w.]+'
 
 # What x86-64 alone knows of a function: its processor, and how it looks for the end of the stack.
-OF_X86_64 = re.compile(r' "(?:target-cpu|target-features|tune-cpu|probe-stack)"="[^"]*"')
+OF_X86_64 = re.compile(r' "(?:target-cpu|target-features|tune-cpu|probe-stack|stack-probe-size)"="[^"]*"')
 # Copies and fills, which a compiler does itself or asks of the C library that every program has.
 INTRINSIC = r'@llvm\.(?:memmove\.p0\.p0\.i64|memset\.p0\.i64)'
 
@@ -45,13 +47,16 @@ FORMS = [re.compile(form) for form in (
     r'\}',
     # memory
     rf'{NAME} = alloca (?:{SCALAR}|\[\d+ x i8\]), align \d+',
-    rf'{NAME} = load {SCALAR}, ptr {VALUE}, align \d+',
+    rf'{NAME} = load (?:{SCALAR}|{PAIR}), ptr {VALUE}, align \d+',
     rf'store {SCALAR} {VALUE}, ptr {VALUE}, align \d+',
     rf'{NAME} = getelementptr {FLAGS}i8, ptr {VALUE}, i64 {VALUE}',
+    # whether C passed an address at all: none is zero on each processor
+    rf'{NAME} = icmp eq ptr %a\d+, null',
     # numbers
     rf'{NAME} = (?:add|sub|mul|udiv|urem|and|or|xor|shl|lshr) {FLAGS}{INTEGER} {VALUE}, {VALUE}',
     rf'{NAME} = icmp (?:eq|ne|ult|ule) {INTEGER} {VALUE}, {VALUE}',
     rf'{NAME} = (?:zext|trunc) {FLAGS}{INTEGER} {VALUE} to {INTEGER}',
+    rf'{NAME} = extractvalue {PAIR} {NAME}, [01]',
     # the way through a function
     r'[\w.]+:',
     rf'br {WHERE}',
@@ -60,7 +65,7 @@ FORMS = [re.compile(form) for form in (
     rf'{INTEGER} -?\d+, {WHERE}',
     r'\]',
     rf'(?:{NAME} = )?call {RESULT} {FUNCTION}\({PASSED}\)',
-    rf'ret (?:void|{SCALAR} {VALUE})',
+    rf'ret (?:void|(?:{SCALAR}|{PAIR}) {VALUE})',
     r'unreachable',
 )]
 
@@ -86,6 +91,13 @@ def only_line(text, start):
     if len(found) != 1:
         stop('%d lines begin with %r, not 1' % (len(found), start))
     return found[0]
+
+
+def check_pairs(module, header):
+    """The second number of a pair stands in memory at the same place: one of 64 bits at a multiple of eight bytes."""
+    for text in (module, header):
+        if re.search(PAIR, module) and not re.search(r'-i64:64\b', only_line(text, 'target datalayout')):
+            stop('numbers of 64 bits are not at multiples of eight bytes')
 
 
 def passed(slot):
@@ -122,6 +134,7 @@ def as_declared(export, wanted):
 
 def retarget(module, header):
     check_forms(module)
+    check_pairs(module, header)
     wanted, exports = declared(header), defined(module)
     if set(wanted) != set(exports):
         stop('not both declared and exported: ' + ' '.join(sorted(set(wanted) ^ set(exports))))

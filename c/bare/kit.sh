@@ -8,15 +8,14 @@ bare=target/archive/$target/bare
 case $system in
 linux) launch=(${emulator:+"$emulator"}) link=("$tools/bin/ld.lld" -static) ;;
 board) launch=(c/bare/on-board "$board") link=("$tools/bin/ld.lld" -static -L c/bare -T "$board.ld") ;;
-wasm) launch=(node c/bare/on-node.mjs) link=("$bare/wasm-ld" --no-entry --export-memory -z stack-size=1048576) ;;
+# the compiler is its own linker for WebAssembly, by this name; rt ci takes no link in a checkout
+wasm) launch=(node c/bare/on-node.mjs) link=(bash -c 'exec -a wasm-ld "$0" "$@"' "$tools/bin/clang" --no-entry --export-memory -z stack-size=1048576) ;;
 esac
 
 # the library, proved and compiled as far as it is not there, and what a program is linked with besides
 need_library() {
     local name
     tools/archive "$target" >/dev/null && mkdir -p "$bare" || return 1
-    # the compiler is its own linker for WebAssembly, by this name
-    ln -sf "$tools/bin/clang" "$bare/wasm-ld"
     # a loop that copies must not become a call of the copying function
     for name in library arithmetic "$system"; do
         compile_c "$bare/$name.o" "c/bare/$name.c" -fno-builtin || return 1

@@ -29,6 +29,8 @@ int main(void)
         return failed("the last of three bytes", last[0]);
     if (ghixramel_last(bytes, 0, last) != 1)
         return failed("the last of no bytes", last[0]);
+    if (ghixramel_last(NULL, 0, last) != 1)
+        return failed("the last of no bytes at no address", last[0]);
 #ifdef WITH_TABLE
     static const uint32_t powers[] = {1, 2, 4, 0x80000000};
     for (uint64_t place = 0; place < 4; place++)

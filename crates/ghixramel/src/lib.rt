@@ -1,4 +1,5 @@
 // The C boundary: the state as words that the caller owns, an image as its arrays, answers and refusals as numbers. Each call is there for both parts.
+// The crate ghixramel_c exports them.
 #![tactic(auto)]
 
 ghost use Rattle.std.specs.Prelude.{◌≡◌, false, [], ◌∷◌, eqb, length};
@@ -18,53 +19,37 @@ use host_calls::{PCAL6524, PCAL6534};
 use host_words::DONE;
 
 // The calls of the PCAL6524.
-#[unsafe(no_mangle)]
-pub extern "C" fn ghixramel_power_on(
-    words: &mut [u64; 28],
-    choice: u32,
-    levels: u64,
-    number: u64,
-) -> u32
+pub fn ghixramel_power_on(words: &mut [u64; 28], choice: u32, levels: u64, number: u64) -> u32
     ensures { Made 0 choice levels number result words.old words.new }
 {
     host_calls::power_on(words, PCAL6524, choice, levels, number)
 }
 
-#[unsafe(no_mangle)]
-pub extern "C" fn ghixramel_step(
-    words: &mut [u64; 28],
-    kind: u32,
-    argument: u64,
-    answer: &mut [u8; 2],
-) -> u32
+pub fn ghixramel_step(words: &mut [u64; 28], kind: u32, argument: u64, answer: &mut [u8; 2]) -> u32
     ensures { Told 0 words.old kind argument result words.new answer.old answer.new }
 {
     host_calls::step(words, PCAL6524, kind, argument, answer)
 }
 
-#[unsafe(no_mangle)]
-pub extern "C" fn ghixramel_drives(words: &[u64; 28], driven: &mut [u64; 2]) -> u32
+pub fn ghixramel_drives(words: &[u64; 28], driven: &mut [u64; 2]) -> u32
     ensures { Seen 0 words.now drives_of result driven.old driven.new }
 {
     host_calls::drives(words, PCAL6524, driven)
 }
 
-#[unsafe(no_mangle)]
-pub extern "C" fn ghixramel_int(words: &[u64; 28], asserted: &mut [u8; 1]) -> u32
+pub fn ghixramel_int(words: &[u64; 28], asserted: &mut [u8; 1]) -> u32
     ensures { Seen 0 words.now int_of result asserted.old asserted.new }
 {
     host_calls::int(words, PCAL6524, asserted)
 }
 
-#[unsafe(no_mangle)]
-pub extern "C" fn ghixramel_show(words: &[u64; 28], number: u32, shown: &mut [u8; 1]) -> u32
+pub fn ghixramel_show(words: &[u64; 28], number: u32, shown: &mut [u8; 1]) -> u32
     ensures { Shown 0 words.now number result shown.old shown.new }
 {
     host_calls::show(words, PCAL6524, number, shown)
 }
 
-#[unsafe(no_mangle)]
-pub extern "C" fn ghixramel_pack(
+pub fn ghixramel_pack(
     words: &mut [u64; 28],
     pins: &[u64; 4],
     registers: &[u8; 128],
@@ -75,8 +60,7 @@ pub extern "C" fn ghixramel_pack(
     host_images::pack(words, PCAL6524, pins, registers, rest)
 }
 
-#[unsafe(no_mangle)]
-pub extern "C" fn ghixramel_unpack(
+pub fn ghixramel_unpack(
     words: &[u64; 28],
     pins: &mut [u64; 4],
     registers: &mut [u8; 128],
@@ -89,8 +73,7 @@ pub extern "C" fn ghixramel_unpack(
 }
 
 // Many events, each of twelve bytes, with two bytes of answer each.
-#[unsafe(no_mangle)]
-pub extern "C" fn ghixramel_burst(
+pub fn ghixramel_burst(
     words: &mut [u64; 28],
     events: &[u8],
     asked: u64,
@@ -104,16 +87,14 @@ pub extern "C" fn ghixramel_burst(
 }
 
 // Loss marks anew, all of them set, each pin with its healthy level.
-#[unsafe(no_mangle)]
-pub extern "C" fn ghixramel_marks_new(marks: &mut [u64; 2], healthy: u64) -> u32
+pub fn ghixramel_marks_new(marks: &mut [u64; 2], healthy: u64) -> u32
     ensures { MakesMarks 0 healthy result marks.old marks.new }
 {
     loss_sets::make(marks, PCAL6524, healthy)
 }
 
 // One event, and what it sets is marked.
-#[unsafe(no_mangle)]
-pub extern "C" fn ghixramel_marked_step(
+pub fn ghixramel_marked_step(
     words: &mut [u64; 28],
     marks: &mut [u64; 2],
     kind: u32,
@@ -126,8 +107,7 @@ pub extern "C" fn ghixramel_marked_step(
 }
 
 // Many events, and what they set is marked.
-#[unsafe(no_mangle)]
-pub extern "C" fn ghixramel_marked_burst(
+pub fn ghixramel_marked_burst(
     words: &mut [u64; 28],
     marks: &mut [u64; 2],
     events: &[u8],
@@ -142,21 +122,14 @@ pub extern "C" fn ghixramel_marked_burst(
 }
 
 // A pin that is quiet and healthy is signed off: its mark is cleared.
-#[unsafe(no_mangle)]
-pub extern "C" fn ghixramel_sign_off(words: &[u64; 28], marks: &mut [u64; 2], pin: u32) -> u32
+pub fn ghixramel_sign_off(words: &[u64; 28], marks: &mut [u64; 2], pin: u32) -> u32
     ensures { Signs 0 words.now marks.old marks.new pin result }
 {
     loss_marks::sign_off(words, marks, PCAL6524, pin)
 }
 
 // The plan from the start to the goal, at the start of the buffer.
-#[unsafe(no_mangle)]
-pub extern "C" fn ghixramel_plan(
-    start: &[u8],
-    goal: &[u8],
-    buffer: &mut [u8],
-    writes: &mut [u64; 1],
-) -> u32
+pub fn ghixramel_plan(start: &[u8], goal: &[u8], buffer: &mut [u8], writes: &mut [u64; 1]) -> u32
     ensures exact { Answers (planned_as result writes.new) buffer.old buffer.new
         (answer_of part24 start.now goal.now (length buffer.old)) }
     ensures promise { Promise part24 start.now goal.now buffer.old buffer.new result (count_in result writes.new) }
@@ -167,8 +140,7 @@ pub extern "C" fn ghixramel_plan(
 }
 
 // A bench's answers against those of the devices that its events make, of either part: the verdict, and where the part of the answers lies that is handed back and how long it is.
-#[unsafe(no_mangle)]
-pub extern "C" fn ghixramel_compare(
+pub fn ghixramel_compare(
     events: &[u8],
     answers: &[u8],
     verdict: &mut [u8; 1],
@@ -184,20 +156,13 @@ pub extern "C" fn ghixramel_compare(
 }
 
 // And of its sister, the PCAL6534.
-#[unsafe(no_mangle)]
-pub extern "C" fn ghixramel34_power_on(
-    words: &mut [u64; 28],
-    choice: u32,
-    levels: u64,
-    number: u64,
-) -> u32
+pub fn ghixramel34_power_on(words: &mut [u64; 28], choice: u32, levels: u64, number: u64) -> u32
     ensures { Made 1 choice levels number result words.old words.new }
 {
     host_calls::power_on(words, PCAL6534, choice, levels, number)
 }
 
-#[unsafe(no_mangle)]
-pub extern "C" fn ghixramel34_step(
+pub fn ghixramel34_step(
     words: &mut [u64; 28],
     kind: u32,
     argument: u64,
@@ -208,29 +173,25 @@ pub extern "C" fn ghixramel34_step(
     host_calls::step(words, PCAL6534, kind, argument, answer)
 }
 
-#[unsafe(no_mangle)]
-pub extern "C" fn ghixramel34_drives(words: &[u64; 28], driven: &mut [u64; 2]) -> u32
+pub fn ghixramel34_drives(words: &[u64; 28], driven: &mut [u64; 2]) -> u32
     ensures { Seen 1 words.now drives_of result driven.old driven.new }
 {
     host_calls::drives(words, PCAL6534, driven)
 }
 
-#[unsafe(no_mangle)]
-pub extern "C" fn ghixramel34_int(words: &[u64; 28], asserted: &mut [u8; 1]) -> u32
+pub fn ghixramel34_int(words: &[u64; 28], asserted: &mut [u8; 1]) -> u32
     ensures { Seen 1 words.now int_of result asserted.old asserted.new }
 {
     host_calls::int(words, PCAL6534, asserted)
 }
 
-#[unsafe(no_mangle)]
-pub extern "C" fn ghixramel34_show(words: &[u64; 28], number: u32, shown: &mut [u8; 1]) -> u32
+pub fn ghixramel34_show(words: &[u64; 28], number: u32, shown: &mut [u8; 1]) -> u32
     ensures { Shown 1 words.now number result shown.old shown.new }
 {
     host_calls::show(words, PCAL6534, number, shown)
 }
 
-#[unsafe(no_mangle)]
-pub extern "C" fn ghixramel34_pack(
+pub fn ghixramel34_pack(
     words: &mut [u64; 28],
     pins: &[u64; 4],
     registers: &[u8; 128],
@@ -241,8 +202,7 @@ pub extern "C" fn ghixramel34_pack(
     host_images::pack(words, PCAL6534, pins, registers, rest)
 }
 
-#[unsafe(no_mangle)]
-pub extern "C" fn ghixramel34_unpack(
+pub fn ghixramel34_unpack(
     words: &[u64; 28],
     pins: &mut [u64; 4],
     registers: &mut [u8; 128],
@@ -255,8 +215,7 @@ pub extern "C" fn ghixramel34_unpack(
 }
 
 // Many events, each of twelve bytes, with two bytes of answer each.
-#[unsafe(no_mangle)]
-pub extern "C" fn ghixramel34_burst(
+pub fn ghixramel34_burst(
     words: &mut [u64; 28],
     events: &[u8],
     asked: u64,
@@ -269,15 +228,13 @@ pub extern "C" fn ghixramel34_burst(
     words_burst::burst(words, PCAL6534, events, asked, answers, done)
 }
 
-#[unsafe(no_mangle)]
-pub extern "C" fn ghixramel34_marks_new(marks: &mut [u64; 2], healthy: u64) -> u32
+pub fn ghixramel34_marks_new(marks: &mut [u64; 2], healthy: u64) -> u32
     ensures { MakesMarks 1 healthy result marks.old marks.new }
 {
     loss_sets::make(marks, PCAL6534, healthy)
 }
 
-#[unsafe(no_mangle)]
-pub extern "C" fn ghixramel34_marked_step(
+pub fn ghixramel34_marked_step(
     words: &mut [u64; 28],
     marks: &mut [u64; 2],
     kind: u32,
@@ -289,8 +246,7 @@ pub extern "C" fn ghixramel34_marked_step(
     loss_host::step(words, marks, PCAL6534, kind, argument, answer)
 }
 
-#[unsafe(no_mangle)]
-pub extern "C" fn ghixramel34_marked_burst(
+pub fn ghixramel34_marked_burst(
     words: &mut [u64; 28],
     marks: &mut [u64; 2],
     events: &[u8],
@@ -304,21 +260,14 @@ pub extern "C" fn ghixramel34_marked_burst(
     loss_burst::burst(words, marks, PCAL6534, events, asked, answers, done)
 }
 
-#[unsafe(no_mangle)]
-pub extern "C" fn ghixramel34_sign_off(words: &[u64; 28], marks: &mut [u64; 2], pin: u32) -> u32
+pub fn ghixramel34_sign_off(words: &[u64; 28], marks: &mut [u64; 2], pin: u32) -> u32
     ensures { Signs 1 words.now marks.old marks.new pin result }
 {
     loss_marks::sign_off(words, marks, PCAL6534, pin)
 }
 
 // The plan from the start to the goal, at the start of the buffer.
-#[unsafe(no_mangle)]
-pub extern "C" fn ghixramel34_plan(
-    start: &[u8],
-    goal: &[u8],
-    buffer: &mut [u8],
-    writes: &mut [u64; 1],
-) -> u32
+pub fn ghixramel34_plan(start: &[u8], goal: &[u8], buffer: &mut [u8], writes: &mut [u64; 1]) -> u32
     ensures exact { Answers (planned_as result writes.new) buffer.old buffer.new
         (answer_of part34 start.now goal.now (length buffer.old)) }
     ensures promise { Promise part34 start.now goal.now buffer.old buffer.new result (count_in result writes.new) }
