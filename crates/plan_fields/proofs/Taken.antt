@@ -1,6 +1,6 @@
 -- Which lines are taken whole, byte by byte, and the bytes that their fields are given. Assumes nothing.
 use mathlib.Core.Path.{◌≡◌, refl, ap, sym, ◌∙◌}
-use mathlib.Core.Bool.{Bool, true, false, cond, not, ◌&&◌, and_false}
+use mathlib.Core.Bool.{Bool, true, false, cond, not, ◌&&◌, and-false}
 use mathlib.Core.List.{List, [], ◌∷◌, ◌++◌}
 use Prim.Native.Nat.{ℕ, ◌+◌, ◌*◌, ◌%◌, ◌<◌}
 use native.Mathlib.Numerals.{add-one}
@@ -84,7 +84,7 @@ tabs_stay r b h =
 
 tabs_end : (r : Reading) (line : List ℕ) → r.tabs ≡ 2 → whole_in (taken_all r line) ≡ false
 unfolding taken_all
-tabs_end r [] h = rw (h, and_false (not r.bad))
+tabs_end r [] h = rw (h, and-false (not r.bad))
 tabs_end r (b ∷ line) h = tabs_end (taken r b) line (tabs_stay r b h)
 
 -- ---- the goal's digits, to the end of the line
@@ -105,7 +105,7 @@ pairs_spoiled a (b ∷ s) h = rw h
 
 -- nothing that is whole
 no_end : (start goal : Field) (line : List ℕ) (r : Reading) → in_pairs line ≡ false → whole_in r ≡ false → Ended start goal line r
-no_end start goal line r p w = record { whole = rw (w, p, and_false (eqb start.high 16)); is = λ q. clash (in_pairs line) q p }
+no_end start goal line r p w = record { whole = rw (w, p, and-false (eqb start.high 16)); is = λ q. clash (in_pairs line) q p }
 
 tab_no_digit : (b : ℕ) → eqb b 0x09 ≡ true → is_digit b ≡ false
 unfolding digit_of
@@ -153,7 +153,7 @@ module _ (start : Field) where
       go : (t : Bool) → is_digit a ≡ t → whole_in (taken (goal_of goal) a) ≡ false
       go true t =
           let n : eqb (digit_of a) 16 ≡ false = ne_eqb (digit_of a) 16 (λ q. omega (arith, ltb-true (digit_of a) 16 t)) in
-          ap whole_in (digit_on goal_of goal_goes goal a t ∙ ap goal_of (first_waits goal whole (digit_of a))) ∙ rw n (and_false (eqb start.high 16))
+          ap whole_in (digit_on goal_of goal_goes goal a t ∙ ap goal_of (first_waits goal whole (digit_of a))) ∙ rw n (and-false (eqb start.high 16))
       go false t = goal_spoiled goal a [] t
 
   goal_two : (goal : Field) → goal.high ≡ 16 → (a b : ℕ) (line : List ℕ) → ((g : Field) → g.high ≡ 16 → Ended start g line (taken_all (goal_of g) line))
@@ -213,7 +213,7 @@ start_spoiled start b line t h = bad_ends (taken (start_of start) b) line (ap (�
 
 -- a start that is not pairs
 unread : (line : List ℕ) → in_pairs (before_tab line) ≡ false → readable line ≡ false
-unread line h = rw h (and_false (has_tab line))
+unread line h = rw h (and-false (has_tab line))
 
 start_odd : (start : Field) → start.high ≡ 16 → (a : ℕ) → Read start (a ∷ []) (taken_all (start_of start) (a ∷ []))
 unfolding taken_all has_tab

@@ -24,13 +24,13 @@ returns-then-not-fits c = λ packed. refused c.args.fits _ _ c.if-not-fits.true
 pub returns-then-n-gt-LAST_NUMBER : goal.returns-then-n-gt-LAST_NUMBER
 returns-then-n-gt-LAST_NUMBER c =
     let x = c.args in
-    λ packed. simp (not-false x.fits c.if-not-fits.false, over (part_of x.part) x.n c.if-n-gt-LAST_NUMBER.true)
+    λ packed. simp (not-false x.fits c.if-not-fits.false-raw, over (part_of x.part) x.n c.if-n-gt-LAST_NUMBER.true)
 
 pub returns-then-row-eq0 : goal.returns-then-row-eq0
 returns-then-row-eq0 c =
     let x = c.args in
     let zero = row_zero _ x.part x.n (search rules) c.row_of-row.ensures in
-    λ packed. simp (not-false x.fits c.if-not-fits.false, sym zero ∙ eq-eqb _ 0 c.if-row-eq0.true)
+    λ packed. simp (not-false x.fits c.if-not-fits.false-raw, sym zero ∙ eq-eqb _ 0 c.if-row-eq0.true)
 
 pub show-byte-requires : goal.show-byte-requires
 show-byte-requires c =
@@ -41,5 +41,5 @@ pub returns : goal.returns
 returns c =
     let x = c.args in
     let known = sym (row_zero _ x.part x.n (search rules) c.row_of-row.ensures) ∙ ne_eqb _ 0 c.if-row-eq0.false in
-    let fits = not-false x.fits c.if-not-fits.false in
+    let fits = c.if-not-fits.false in
     λ packed. ap (byte 0) (c.show-byte.ensures x.part x.n known c.row_of-row.ensures (packed fits).fit) ∙ simp (fits, known)

@@ -1,5 +1,4 @@
 use mathlib.Core.Path.{refl, ap}
-use Prim.Native.Nat.{◌-◌}
 use Rattle.map.specs.Map.{part_of}
 use Rattle.registers.specs.Registers.{Core}
 use Rattle.words.proofs.Sound.{sound}

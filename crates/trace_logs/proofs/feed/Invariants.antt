@@ -1,0 +1,13 @@
+-- `trace_logs::feed`: at each turn the answers written and those of the rest are all answers of the piece (`Onward`). Assumes nothing.
+use lib.ListN.{length}
+use Rattle.text_logs.proofs.Feeding.{Onward}
+use Rattle.trace_session.specs.Tracing.{session_of, answer_to, Beside}
+use Rattle.trace_session.proofs.Laws.{answer_short}
+use Rattle.trace_logs.specs.Pieces.{Holds}
+use Rattle.trace_logs.proofs.feed.Given as goal
+
+abbrev pub invariant-loop-rest : goal.invariant-loop-rest
+invariant-loop-rest l = Onward answer_to answer_short 26 (session_of l.initial.words) l.initial.held l.len l.piece l.initial.out l.at l.out l.rest (session_of l.words) l.held l.count l.end × Holds l.initial.words l.words × Beside l.words l.rows l.next l.told l.kept
+
+abbrev pub decreases-loop-rest : goal.decreases-loop-rest
+decreases-loop-rest l = length l.rest
