@@ -26,23 +26,26 @@ fn say_refusal(rt: &impl Print, number: u8) -> io::Result<()> {
     rt.write_all(&out[0..end])
 }
 
+// The program's name, as a person knows it.
+fn name(part: u8) -> &'static str {
+    if part == PART24 { "plan" } else { "plan34" }
+}
+
 // Of two texts the part's, for a person. Where nobody can be told, the answer stands all the same.
 fn explain_for(rt: &impl Eprint, part: u8, first: &str, sister: &str) {
     let text = if part == PART24 { first } else { sister };
-    let _ = rt.eprintln(text);
+    let name = name(part);
+    let _ = eprintln!(rt; "{name}: {text}");
 }
 
 // Why no quiet way exists, for a person: one pin that is in the way.
 fn explain_pin(rt: &impl Eprint, part: u8, pin: u8) {
-    let (program, bits) = if part == PART24 {
-        ("plan", "5c")
-    } else {
-        ("plan34", "53")
-    };
+    let name = name(part);
     let port = pin / 8;
     let bit = pin % 8;
+    let changes = if part == PART24 { "5c" } else { "53" };
     let _ = eprintln!(rt;
-        "{program}: pin {pin:02} (port {port}, bit {bit}) is driven high at start and goal while its port's bit in {bits} changes: keep that bit, or let the pin be low or released at one end"
+        "{name}: pin {pin:02} (port {port}, bit {bit}) is driven high at start and goal while its port's bit in {changes} changes: keep that bit, or let the pin be low or released at one end"
     );
 }
 
@@ -71,16 +74,14 @@ fn explain_refusal(rt: &impl Eprint, part: u8, number: u8, r: Reading) {
             explain_for(
                 rt,
                 part,
-                "plan: a start and a goal are ten bytes each, 04 05 06 0c 0d 0e 5c 70 71 72, and the 5c byte is 07 or less",
-                "plan34: a start and a goal are sixteen bytes each, 05 06 07 08 09 0f 10 11 12 13 53 68 69 6a 6b 6c; the 53 byte is 1f or less, and the bytes 09 13 6c of port 4 are 03 or less",
+                "a start and a goal are ten bytes each, 04 05 06 0c 0d 0e 5c 70 71 72, and the 5c byte is 07 or less",
+                "a start and a goal are sixteen bytes each, 05 06 07 08 09 0f 10 11 12 13 53 68 69 6a 6b 6c; the 53 byte is 1f or less, and the bytes 09 13 6c of port 4 are 03 or less",
             );
         }
         UNREADABLE => {
-            explain_for(
-                rt,
-                part,
-                "plan: give a start and a goal as pairs of lowercase hex digits, nothing else; on a line of standard input with one tab between them",
-                "plan34: give a start and a goal as pairs of lowercase hex digits, nothing else; on a line of standard input with one tab between them",
+            let name = name(part);
+            let _ = eprintln!(rt;
+                "{name}: give a start and a goal as pairs of lowercase hex digits, nothing else; on a line of standard input with one tab between them"
             );
         }
         NO_QUIET_WAY => {
@@ -201,8 +202,8 @@ pub fn run(rt: &(impl Env + Input + Print + Eprint), part: u8) -> io::Result<()>
     explain_for(
         rt,
         part,
-        "plan: give a start and a goal, twenty hex digits each, in the order 04 05 06 0c 0d 0e 5c 70 71 72; or lines START<tab>GOAL on standard input",
-        "plan34: give a start and a goal, thirty-two hex digits each, in the order 05 06 07 08 09 0f 10 11 12 13 53 68 69 6a 6b 6c; or lines START<tab>GOAL on standard input",
+        "give a start and a goal, twenty hex digits each, in the order 04 05 06 0c 0d 0e 5c 70 71 72; or lines START<tab>GOAL on standard input",
+        "give a start and a goal, thirty-two hex digits each, in the order 05 06 07 08 09 0f 10 11 12 13 53 68 69 6a 6b 6c; or lines START<tab>GOAL on standard input",
     );
     Ok(())
 }
