@@ -4,5 +4,5 @@
 use std::io;
 
 fn main(rt: HostRuntime) -> io::Result<()> {
-    compare_program::run(&rt)
+    compare_program::run(&rt, &rt.stderr())
 }

@@ -7,10 +7,9 @@ use compare_lines::SAME;
 use compare_pieces::LONGEST;
 use compare_stands::Stand;
 use std::env::FillError;
-use std::fs::File;
-use std::io;
 use std::io::ErrorKind;
 use std::rt::{Env, Files};
+use std::{fs, io};
 
 // The longest name of a file, and the zero after it.
 const NAME: usize = 4096;
@@ -138,16 +137,21 @@ fn compare_files(
     )
 }
 
-// Opens the file of a name that std takes as text.
-fn open_name(rt: &HostRuntime, name: &[u8]) -> io::Result<File> {
+// Opens the file of a name, which std takes as text.
+fn open_name<R: Files>(rt: &R, name: &[u8]) -> io::Result<R::File> {
     match str::from_utf8(name) {
-        Ok(text) => File::open(rt, text),
+        Ok(text) => fs::open(rt, text),
         Err(_) => Err(io::Error::new(ErrorKind::InvalidInput, "the name of the file is not UTF-8")),
     }
 }
 
 // A file that is named by an argument.
-fn open(rt: &HostRuntime, argument: usize, what: &[u8]) -> Option<File> {
+fn open<R: Env + Files>(
+    rt: &R,
+    said: &impl Print,
+    argument: usize,
+    what: &[u8],
+) -> Option<R::File> {
     let mut name = [0u8; NAME];
     let opened = match rt.arg(argument, &mut name) {
         Ok(n) => open_name(rt, &name[0..n]),
@@ -156,7 +160,7 @@ fn open(rt: &HostRuntime, argument: usize, what: &[u8]) -> Option<File> {
     match opened {
         Ok(file) => Some(file),
         Err(error) => {
-            compare_answers::fail(&rt.stderr(), what, error);
+            compare_answers::fail(said, what, error);
             None
         }
     }
@@ -169,16 +173,16 @@ fn is_given(rt: &impl Env, argument: usize) -> bool {
 }
 
 // Two arguments: a file of events, and one of answers.
-pub fn run(rt: &HostRuntime) -> io::Result<()> {
+pub fn run(rt: &(impl Env + Files + Print), said: &impl Print) -> io::Result<()> {
     if !is_given(rt, 2) || is_given(rt, 3) {
-        let _ = eprintln!(rt; "compare: give two files, the events and the answers");
+        let _ = said.write_all(b"compare: give two files, the events and the answers\n");
         return Ok(());
     }
-    let Some(mut events) = open(rt, 1, b"compare: the events") else {
+    let Some(mut events) = open(rt, said, 1, b"compare: the events") else {
         return Ok(());
     };
-    let Some(mut answers) = open(rt, 2, b"compare: the answers") else {
+    let Some(mut answers) = open(rt, said, 2, b"compare: the answers") else {
         return Ok(());
     };
-    compare_files(rt, &rt.stderr(), &mut events, &mut answers)
+    compare_files(rt, said, &mut events, &mut answers)
 }
