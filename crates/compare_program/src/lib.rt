@@ -6,7 +6,16 @@ ghost use Rattle.std.specs.Prelude.{◌≡◌, ◌≤◌, length};
 use compare_lines::SAME;
 use compare_pieces::LONGEST;
 use compare_stands::Stand;
-use libc::STDERR_FILENO;
+use std::env::FillError;
+use std::io::ErrorKind;
+use std::rt::{Env, Files};
+use std::{fs, io};
+
+// The longest name of a file, and the zero after it.
+const NAME: usize = 4096;
+
+// What the system answers to a longer name.
+const NAME_TOO_LONG: i32 = 36;
 
 // How many bytes of the events a read gave, none at their end, and whether it failed.
 #[derive(Drop)]
@@ -15,29 +24,29 @@ struct Read {
     failed: bool,
 }
 
-fn read_events(fd: i32, piece: &mut [u8]) -> Read
+fn read_events(said: &impl Print, events: &mut impl io::Read, piece: &mut [u8]) -> Read
     ensures { (result.n ≤ length piece.new) × (length piece.new ≡ length piece.old) }
 {
-    let got = libc::read(fd, piece);
-    if got < 0 {
-        os::fail(b"compare: the events");
-        return Read { n: 0, failed: true };
-    }
-    Read {
-        n: io::count(got, piece),
-        failed: false,
+    match events.read(piece) {
+        Ok(n) => Read { n, failed: false },
+        Err(error) => {
+            compare_answers::fail(said, b"compare: the events", error);
+            Read { n: 0, failed: true }
+        }
     }
 }
 
 // The events after the header's line, of which a first piece is there, piece by piece, and their end.
 fn run_events(
-    events: i32,
-    answers: i32,
+    out: &impl Print,
+    said: &impl Print,
+    events: &mut impl io::Read,
+    answers: &mut impl io::Read,
     piece: &mut [u8],
     first: usize,
     seen: &mut [u8],
     stand: Stand,
-)
+) -> io::Result<()>
     requires { (first ≤ length piece.old) × (stand.len ≡ 0) × (stand.at ≤ stand.have) × (stand.have ≤ length seen.old) × (64 ≤ length seen.old) }
     ensures { (length piece.new ≡ length piece.old) × (length seen.new ≡ length seen.old) }
 {
@@ -49,16 +58,17 @@ fn run_events(
     let mut held = [0u8; 33];
     let mut s = stand;
     let mut n = first;
-    let mut turns = u64::MAX;
-    while 0 < turns {
-        turns = turns - 1;
+    // a proved loop ends: it counts up to a number that no file uses up
+    for _ in 0..u64::MAX {
         if n == 0 {
-            compare_stands::end_events(
-                &mut words, &mut rows, &mut next, &mut told, &mut kept, &held, s, answers, seen,
+            return compare_stands::end_events(
+                out, said, &mut words, &mut rows, &mut next, &mut told, &mut kept, &held, s,
+                answers, seen,
             );
-            return;
         }
         s = compare_stands::meet_piece(
+            out,
+            said,
             &mut words,
             &mut rows,
             &mut next,
@@ -69,26 +79,32 @@ fn run_events(
             &piece[0..n],
             answers,
             seen,
-        );
+        )?;
         if s.done {
-            return;
+            return Ok(());
         }
-        let read = read_events(events, piece);
+        let read = read_events(said, events, piece);
         if read.failed {
-            return;
+            return Ok(());
         }
         n = read.n;
     }
+    Ok(())
 }
 
 // The header's line, then all others. Both files are read before anything is said.
-fn compare_files(events: i32, answers: i32) {
+fn compare_files(
+    out: &impl Print,
+    said: &impl Print,
+    events: &mut impl io::Read,
+    answers: &mut impl io::Read,
+) -> io::Result<()> {
     let mut piece = [0u8; 16384];
-    let mut seen = io::large_buffer();
-    let read = read_events(events, &mut piece);
-    let filled = compare_answers::fill(answers, &mut seen, 0, 0);
+    let mut seen = [0u8; 65536];
+    let read = read_events(said, events, &mut piece);
+    let filled = compare_answers::fill(said, answers, &mut seen, 0, 0);
     if read.failed || filled.failed {
-        return;
+        return Ok(());
     }
     let have = filled.have;
     let mut line = [0u8; LONGEST];
@@ -103,7 +119,9 @@ fn compare_files(events: i32, answers: i32) {
         done: false,
     };
     if judged.verdict != SAME {
-        compare_stands::finish(
+        return compare_stands::finish(
+            out,
+            said,
             stand,
             judged.verdict,
             b"none, this is the header",
@@ -111,44 +129,60 @@ fn compare_files(events: i32, answers: i32) {
             answers,
             &mut seen,
         );
-        return;
     }
     stand.at = judged.taken;
     stand.agreed = 1;
-    run_events(events, answers, &mut piece, read.n, &mut seen, stand);
+    run_events(
+        out, said, events, answers, &mut piece, read.n, &mut seen, stand,
+    )
+}
+
+// Opens the file of a name, which std takes as text.
+fn open_name<R: Files>(rt: &R, name: &[u8]) -> io::Result<R::File> {
+    match str::from_utf8(name) {
+        Ok(text) => fs::open(rt, text),
+        Err(_) => Err(io::Error::new(ErrorKind::InvalidInput, "the name of the file is not UTF-8")),
+    }
 }
 
 // A file that is named by an argument.
-fn open(argument: usize, what: &[u8]) -> i32 {
-    let mut name = io::buffer();
-    let n = os::arg(argument, &mut name);
-    if os::errno() != 0 {
-        os::fail(what);
-        return -1;
+fn open<R: Env + Files>(
+    rt: &R,
+    said: &impl Print,
+    argument: usize,
+    what: &[u8],
+) -> Option<R::File> {
+    let mut name = [0u8; NAME];
+    let opened = match rt.arg(argument, &mut name) {
+        Ok(n) => open_name(rt, &name[0..n]),
+        Err(_) => Err(io::Error::from_raw_os_error(NAME_TOO_LONG)),
+    };
+    match opened {
+        Ok(file) => Some(file),
+        Err(error) => {
+            compare_answers::fail(said, what, error);
+            None
+        }
     }
-    let fd = os::open_read(&name[0..n]);
-    if fd < 0 {
-        os::fail(what);
-    }
-    fd
+}
+
+// Whether the program was given an argument at a place, be it of any length.
+fn is_given(rt: &impl Env, argument: usize) -> bool {
+    let mut word = [0u8; 1];
+    !matches!(rt.arg(argument, &mut word), Err(FillError::NotPresent))
 }
 
 // Two arguments: a file of events, and one of answers.
-pub fn run() {
-    if os::arg_count() != 3 {
-        io::write_all(
-            STDERR_FILENO,
-            b"compare: give two files, the events and the answers\n",
-        );
-        return;
+pub fn run(rt: &(impl Env + Files + Print), said: &impl Print) -> io::Result<()> {
+    if !is_given(rt, 2) || is_given(rt, 3) {
+        let _ = said.write_all(b"compare: give two files, the events and the answers\n");
+        return Ok(());
     }
-    let events = open(1, b"compare: the events");
-    if events < 0 {
-        return;
-    }
-    let answers = open(2, b"compare: the answers");
-    if answers < 0 {
-        return;
-    }
-    compare_files(events, answers);
+    let Some(mut events) = open(rt, said, 1, b"compare: the events") else {
+        return Ok(());
+    };
+    let Some(mut answers) = open(rt, said, 2, b"compare: the answers") else {
+        return Ok(());
+    };
+    compare_files(rt, said, &mut events, &mut answers)
 }

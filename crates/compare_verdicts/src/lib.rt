@@ -2,22 +2,27 @@
 #![tactic(auto)]
 
 use compare_lines::{AGREES, DEPARTS, ENDS_EARLY};
-use libc::{STDERR_FILENO, STDOUT_FILENO};
+use std::io;
 
 // Of a longer line a person is shown so many bytes.
 const SHOWN: usize = 32;
 
+// A part of what a person is told. Where nobody can be told, the verdict stands all the same.
+fn tell(said: &impl Print, part: &[u8]) {
+    let _ = said.write_all(part);
+}
+
 // What a person is told of a line: its beginning.
-fn tell_line(label: &[u8], text: &[u8]) {
+fn tell_line(said: &impl Print, label: &[u8], text: &[u8]) {
     let len = text_pieces::newline_at(text);
-    io::write_all(STDERR_FILENO, label);
+    tell(said, label);
     if SHOWN < len {
-        io::write_all(STDERR_FILENO, &text[0..SHOWN]);
-        io::write_all(STDERR_FILENO, b"...\n");
+        tell(said, &text[0..SHOWN]);
+        tell(said, b"...\n");
         return;
     }
-    io::write_all(STDERR_FILENO, &text[0..len]);
-    io::write_all(STDERR_FILENO, b"\n");
+    tell(said, &text[0..len]);
+    tell(said, b"\n");
 }
 
 // A count that stays where it is when it can't grow.
@@ -28,50 +33,53 @@ pub fn counted(count: u64, more: u64) -> u64 {
     count + more
 }
 
-fn tell_number(agreed: u64, what: &[u8]) {
-    io::write_all(STDERR_FILENO, b"compare: line ");
-    io::print_decimal(STDERR_FILENO, counted(agreed, 1));
-    io::write_all(STDERR_FILENO, what);
+fn tell_number(said: &impl Print, agreed: u64, what: &str) {
+    let number = counted(agreed, 1);
+    let _ = println!(said; "compare: line {number} {what}");
 }
 
-fn tell_agreed(agreed: u64) {
-    io::write_all(STDERR_FILENO, b"compare: ");
-    io::print_decimal(STDERR_FILENO, agreed);
-    if agreed == 1 {
-        io::write_all(STDERR_FILENO, b" line agrees\n");
+fn tell_agreed(said: &impl Print, agreed: u64) {
+    let what = if agreed == 1 {
+        "line agrees"
     } else {
-        io::write_all(STDERR_FILENO, b" lines agree\n");
-    }
+        "lines agree"
+    };
+    let _ = println!(said; "compare: {agreed} {what}");
 }
 
 // The verdict and what a person is told: how many lines agree, the event of the next line, the line that was expected, and the answers from that line on.
-pub fn conclude(verdict: u8, agreed: u64, event: &[u8], expected: &[u8], found: &[u8]) {
+pub fn conclude(
+    out: &impl Print,
+    said: &impl Print,
+    verdict: u8,
+    agreed: u64,
+    event: &[u8],
+    expected: &[u8],
+    found: &[u8],
+) -> io::Result<()> {
     match verdict {
         AGREES => {
-            tell_agreed(agreed);
-            io::write_all(STDOUT_FILENO, b"agrees\n");
+            tell_agreed(said, agreed);
+            out.write_all(b"agrees\n")
         }
         DEPARTS => {
-            tell_number(agreed, b" departs\n");
-            tell_line(b"event: ", event);
-            tell_line(b"expected: ", expected);
-            tell_line(b"found: ", found);
-            io::write_all(STDOUT_FILENO, b"departs\n");
+            tell_number(said, agreed, "departs");
+            tell_line(said, b"event: ", event);
+            tell_line(said, b"expected: ", expected);
+            tell_line(said, b"found: ", found);
+            out.write_all(b"departs\n")
         }
         ENDS_EARLY => {
-            tell_number(agreed, b" is missing\n");
-            tell_line(b"event: ", event);
-            tell_line(b"expected: ", expected);
-            io::write_all(STDOUT_FILENO, b"ends early\n");
+            tell_number(said, agreed, "is missing");
+            tell_line(said, b"event: ", event);
+            tell_line(said, b"expected: ", expected);
+            out.write_all(b"ends early\n")
         }
         _ => {
-            tell_number(agreed, b" is left over\n");
-            io::write_all(
-                STDERR_FILENO,
-                b"expected: nothing, the events end before it\n",
-            );
-            tell_line(b"found: ", found);
-            io::write_all(STDOUT_FILENO, b"left over\n");
+            tell_number(said, agreed, "is left over");
+            tell(said, b"expected: nothing, the events end before it\n");
+            tell_line(said, b"found: ", found);
+            out.write_all(b"left over\n")
         }
     }
 }

@@ -2,7 +2,8 @@
 #![tactic(auto)]
 
 use device::PART24;
+use std::io;
 
-fn main() {
-    plan_program::run(PART24);
+fn main(rt: HostRuntime) -> io::Result<()> {
+    plan_program::run(&rt, PART24)
 }

@@ -2,7 +2,8 @@
 #![tactic(auto)]
 
 use device::PART34;
+use std::io;
 
-fn main() {
-    plan_program::run(PART34);
+fn main(rt: HostRuntime) -> io::Result<()> {
+    plan_program::run(&rt, PART34)
 }

@@ -2,7 +2,8 @@
 #![tactic(auto)]
 
 use device::PART24;
+use std::io;
 
-fn main() {
-    probe_program::run(PART24);
+fn main(rt: HostRuntime) -> io::Result<()> {
+    probe_program::run(&rt, PART24)
 }

@@ -1,16 +1,17 @@
 // The watch program: a log of events and sign-offs on standard input, an answer for each line, with the loss marks, on standard output.
 #![tactic(auto)]
 
-use libc::STDOUT_FILENO;
+use std::io;
+use std::io::Read;
 
-fn write_header() {
+fn write_header(to: &impl Print) -> io::Result<()> {
     let mut out = [0u8; 26];
     let end = watch_logs::put_header(&mut out, 0);
-    io::write_all(STDOUT_FILENO, &out[0..end]);
+    to.write_all(&out[0..end])
 }
 
 // The answers' room is ten bytes for each byte of a piece and of a line that has begun, and 36 more.
-fn main() {
+fn main(rt: HostRuntime) -> io::Result<()> {
     let mut piece = [0u8; 16384];
     let mut out = [0u8; 164_206];
     let mut rows = [0u32; 128];
@@ -21,19 +22,17 @@ fn main() {
     let mut marks = [0u64; 2];
     let mut held = [0u8; 33];
     let mut len = 0;
-    write_header();
-    let mut turns = u64::MAX;
-    while 0 < turns {
-        turns = turns - 1;
-        let got = libc::read(0, &mut piece);
-        let n = io::count(got, &piece);
+    let mut input = rt.stdin();
+    write_header(&rt)?;
+    // a proved loop ends: it counts up to a number that no input reaches
+    for _ in 0..u64::MAX {
+        let n = input.read(&mut piece)?;
         if n == 0 {
             let end = watch_logs::finish(
                 &mut words, &mut rows, &mut next, &mut told, &mut kept, &mut marks, &held, len,
                 &mut out, 0,
             );
-            io::write_all(STDOUT_FILENO, &out[0..end]);
-            return;
+            return rt.write_all(&out[0..end]);
         }
         let fed = watch_logs::feed(
             &mut words,
@@ -50,6 +49,7 @@ fn main() {
         );
         let end = fed.end;
         len = fed.len;
-        io::write_all(STDOUT_FILENO, &out[0..end]);
+        rt.write_all(&out[0..end])?;
     }
+    Ok(())
 }
