@@ -13,21 +13,21 @@ use Rattle.trace_joins.specs.Readings.{Reading}
 use Rattle.trace_logs.specs.Pieces.{opened}
 use Rattle.compare_lines.specs.Comparing.{Found, first_line, compared, part_from}
 use Rattle.compare_lines.specs.Judging.{same, Judges}
-use Rattle.compare_pieces.specs.Meeting.{goes_on, Unless, Meets, Settles}
+use Rattle.compare_pieces.specs.Meeting.{found_onward, Unless, Meets, Settles}
 use Rattle.compare_pieces.proofs.Laws.{There}
 use Rattle.compare_pieces.proofs.Whole.{header_agrees, whole_header}
 use Rattle.compare_logs.specs.Finding.{FindsOn, LineAt, Finds}
 
 -- ---- after the header
 module _ {r : Reading} (start : r ≡ opened) (events rest : List ℕ) where
-  whole : (n : ℕ) → goes_on n r (events ++ []) (rest ++ []) ≡ goes_on n opened events rest
+  whole : (n : ℕ) → found_onward n r (events ++ []) (rest ++ []) ≡ found_onward n opened events rest
   whole n =
-      ap (λ (x : Reading). goes_on n x (events ++ []) (rest ++ [])) start ∙ ap (λ (x : List ℕ). goes_on n opened x (rest ++ [])) (append-nil events)
-      ∙ ap (goes_on n opened events) (append-nil rest)
+      ap (λ (x : Reading). found_onward n x (events ++ []) (rest ++ [])) start ∙ ap (λ (x : List ℕ). found_onward n opened x (rest ++ [])) (append-nil events)
+      ∙ ap (found_onward n opened events) (append-nil rest)
 
   pub finds_decided : {verdict lines told taken : ℕ} {after : Reading} → Meets (Unless true) r events rest verdict lines told taken after → (verdict ≡ same → ⊥) → FindsOn events rest verdict (drop taken rest)
   finds_decided {verdict} {lines} {told} {taken} m h =
-      let found : (n : ℕ) → goes_on n opened events rest ≡ record { verdict = verdict; agreed = n + lines; left = drop taken rest ++ [] } =
+      let found : (n : ℕ) → found_onward n opened events rest ≡ record { verdict = verdict; agreed = n + lines; left = drop taken rest ++ [] } =
       λ n. (sym (whole n) ∙ m.decides h n [] [] (λ u. refl)) in
       record {
         verdict_on = λ n. sym (ap (λ (f : Found). f.verdict) (found n));
@@ -39,10 +39,10 @@ module _ {r : Reading} (start : r ≡ opened) (events rest : List ℕ) where
     settled : Settles after (drop taken rest) verdict lines' taken'
     settled = rw (tail taken rest) at s
 
-    settled_on : (n : ℕ) → goes_on n opened events rest ≡ record { verdict = verdict; agreed = n + lines + lines'; left = drop taken' (drop taken rest) ++ [] }
+    settled_on : (n : ℕ) → found_onward n opened events rest ≡ record { verdict = verdict; agreed = n + lines + lines'; left = drop taken' (drop taken rest) ++ [] }
     settled_on n =
         sym (whole n) ∙ m.goes_on refl n [] [] (λ u. refl)
-        ∙ ap (λ (x : List ℕ). goes_on (n + lines) after x (drop taken rest ++ [])) (append-nil (drop told events) ∙ ap (λ (k : ℕ). drop k events) all ∙ drop-length events)
+        ∙ ap (λ (x : List ℕ). found_onward (n + lines) after x (drop taken rest ++ [])) (append-nil (drop told events) ∙ ap (λ (k : ℕ). drop k events) all ∙ drop-length events)
         ∙ settled.settles (n + lines) [] (λ u. refl)
 
     pub finds_settled : FindsOn events rest verdict (drop (taken + taken') rest)
@@ -81,8 +81,8 @@ module _ (events answers : List ℕ) {out left : List ℕ} {end : ℕ} (t : Ther
       → LineAt answers (taken + from) to → Finds events answers found (taken + from) to
   finds_rest e {found} {from} {to} f h a =
       let g : FindsOn events (drop taken answers) found (drop from (drop taken answers)) = rw (tail taken answers) at f in
-      let c : compared events answers ≡ goes_on 1 opened events (drop taken answers) =
-      all ∙ header_agrees events answers [] t j (λ u. refl) e ∙ ap (goes_on 1 opened events) (append-nil (drop taken answers)) in
+      let c : compared events answers ≡ found_onward 1 opened events (drop taken answers) =
+      all ∙ header_agrees events answers [] t j (λ u. refl) e ∙ ap (found_onward 1 opened events) (append-nil (drop taken answers)) in
       finds events answers (g.verdict_on 1 ∙ sym (ap (λ (x : Found). x.verdict) c)) (sym (drop-drop from taken answers) ∙ g.left_on 1 ∙ sym (ap (λ (x : Found). x.left) c))
       (omega (arith, h, ap length (tail taken answers), length-drop taken answers, j.within)) a
 

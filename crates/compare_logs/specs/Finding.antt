@@ -3,12 +3,12 @@ use Rattle.std.specs.Prelude.{◌≡◌, List, ℕ, ◌+◌, ◌≤◌, length, 
 use Rattle.text_pieces.specs.Pieces.{newline_at}
 use Rattle.trace_logs.specs.Pieces.{opened}
 use Rattle.compare_lines.specs.Comparing.{compared, part_from, part_to}
-use Rattle.compare_pieces.specs.Meeting.{goes_on}
+use Rattle.compare_pieces.specs.Meeting.{found_onward}
 
 -- what is found in what is left of the answers after the header, however many lines agree before
 pub record FindsOn (events rest : List ℕ) (verdict : ℕ) (left : List ℕ) : Type 0 where
-  pub verdict_on : (n : ℕ) → verdict ≡ (goes_on n opened events rest).verdict
-  pub left_on : (n : ℕ) → left ≡ (goes_on n opened events rest).left
+  pub verdict_on : (n : ℕ) → verdict ≡ (found_onward n opened events rest).verdict
+  pub left_on : (n : ℕ) → left ≡ (found_onward n opened events rest).left
 
 -- a place of the answers, and where the line ends that begins there
 pub record LineAt (answers : List ℕ) (from to : ℕ) : Type 0 where

@@ -23,7 +23,7 @@ use Rattle.trace_logs.specs.Pieces.{Given, ended, given, first_given, Gives, las
 use Rattle.compare_lines.specs.Comparing.{found_in}
 use Rattle.compare_lines.specs.Judging.{OneLine, same, Judges}
 use Rattle.compare_lines.proofs.Plain.{answer_one}
-use Rattle.compare_pieces.specs.Meeting.{goes_on, Seen, Unless, Meets}
+use Rattle.compare_pieces.specs.Meeting.{found_onward, Seen, Unless, Meets}
 
 -- a line that is written at the beginning of a memory for one, as the code names it
 pub record There (text out left : List ℕ) (end : ℕ) : Type 0 where
@@ -92,7 +92,7 @@ module _ (r : Reading) (events : List ℕ) (small : length r.begun ≤ 33) where
 
   module _ (some : 0 < length events) (answers : List ℕ) {after : Reading} {told : ℕ} (goes : after ≡ (first_given r events).after) (takes : told ≡ taken_of events) where
     -- what is found after it
-    on : (n k : ℕ) (later rest : List ℕ) → n ≡ k → found_in n (to_end (given (first_given r events).after (drop (taken_of events) events ++ later))) rest ≡ goes_on k after (drop told events ++ later) rest
+    on : (n k : ℕ) (later rest : List ℕ) → n ≡ k → found_in n (to_end (given (first_given r events).after (drop (taken_of events) events ++ later))) rest ≡ found_onward k after (drop told events ++ later) rest
     on n k later rest e =
         ap (λ (x : ℕ). found_in x (to_end (given (first_given r events).after (drop (taken_of events) events ++ later))) rest) e
         ∙ ap (λ (x : Reading). found_in k (to_end (given x (drop (taken_of events) events ++ later))) rest) (sym goes)
@@ -122,7 +122,7 @@ module _ (r : Reading) (events : List ℕ) (small : length r.begun ≤ 33) where
       all_seen : (more : List ℕ) → Seen answers more → length answers ≤ length line → more ≡ []
       all_seen more seen h = seen (omega (arith, ap length is, first_short r events))
 
-      expects : (n : ℕ) (later rest : List ℕ) → goes_on n r (events ++ later) rest ≡ found_in n (line ++ to_end (given (first_given r events).after (drop (taken_of events) events ++ later))) rest
+      expects : (n : ℕ) (later rest : List ℕ) → found_onward n r (events ++ later) rest ≡ found_in n (line ++ to_end (given (first_given r events).after (drop (taken_of events) events ++ later))) rest
       expects n later rest =
           ap (λ (x : List ℕ). found_in n x rest) (first_then later)
           ∙ ap (λ (x : List ℕ). found_in n (x ++ to_end (given (first_given r events).after (drop (taken_of events) events ++ later))) rest) (sym is)
@@ -158,7 +158,7 @@ meets_start follows r events answers = record {
   within_events = omega arith;
   within_answers = omega arith;
   few = omega arith;
-  goes_on = λ v n later more f. (let z : n ≡ n + 0 = omega arith in ap (λ (k : ℕ). goes_on k r (events ++ later) (answers ++ more)) z);
+  goes_on = λ v n later more f. (let z : n ≡ n + 0 = omega arith in ap (λ (k : ℕ). found_onward k r (events ++ later) (answers ++ more)) z);
   decides = λ v. absurd (v refl);
 }
 
@@ -174,9 +174,9 @@ meets_then {last} {r} {between} {after} {events} {answers} {lines} {told} {taken
       few = omega (arith, s.few, m.few);
       goes_on = λ v n later more u. (
           m.goes_on refl n later more u ∙ s.goes_on v (n + lines) later more (seen more u)
-          ∙ ap (λ (k : ℕ). goes_on k after (drop told' (drop told events) ++ later) (drop taken' (drop taken answers) ++ more)) (sum n)
-          ∙ ap (λ (x : List ℕ). goes_on (n + (lines + lines')) after (x ++ later) (drop taken' (drop taken answers) ++ more)) (drop-drop told' told events)
-          ∙ ap (λ (x : List ℕ). goes_on (n + (lines + lines')) after (drop (told + told') events ++ later) (x ++ more)) (drop-drop taken' taken answers));
+          ∙ ap (λ (k : ℕ). found_onward k after (drop told' (drop told events) ++ later) (drop taken' (drop taken answers) ++ more)) (sum n)
+          ∙ ap (λ (x : List ℕ). found_onward (n + (lines + lines')) after (x ++ later) (drop taken' (drop taken answers) ++ more)) (drop-drop told' told events)
+          ∙ ap (λ (x : List ℕ). found_onward (n + (lines + lines')) after (drop (told + told') events ++ later) (x ++ more)) (drop-drop taken' taken answers));
       decides = λ v n later more u. (
           m.goes_on refl n later more u ∙ s.decides v (n + lines) later more (seen more u)
           ∙ ap (λ (k : ℕ). record { verdict = verdict; agreed = k; left = drop taken' (drop taken answers) ++ more }) (sum n)

@@ -12,7 +12,7 @@ use Rattle.trace_logs.proofs.Whole.{one_piece}
 use Rattle.compare_lines.specs.Comparing.{Found, found_in, compared}
 use Rattle.compare_lines.specs.Judging.{same, Judges}
 use Rattle.compare_lines.proofs.Plain.{header_one}
-use Rattle.compare_pieces.specs.Meeting.{goes_on, Seen, Ran}
+use Rattle.compare_pieces.specs.Meeting.{found_onward, Seen, Ran}
 use Rattle.compare_pieces.specs.Meeting.Ran.{Went, Decided, Settled}
 use Rattle.compare_pieces.proofs.Laws.{There, there}
 
@@ -32,7 +32,7 @@ module _ (events answers more : List ℕ) {out left : List ℕ} {end : ℕ} (t :
   seen_header : length answers ≤ length header → more ≡ []
   seen_header h = seen (omega (arith, h, header_short))
 
-  pub header_agrees : verdict ≡ same → compared events (answers ++ more) ≡ goes_on 1 opened events (drop taken answers ++ more)
+  pub header_agrees : verdict ≡ same → compared events (answers ++ more) ≡ found_onward 1 opened events (drop taken answers ++ more)
   header_agrees e = compared_is events (answers ++ more) ∙ judged.goes_on e header_one 0 (to_end (given opened events)) more seen_header
 
   pub whole_header : (verdict ≡ same → ⊥) → compared events (answers ++ more) ≡ record { verdict = verdict; agreed = 0; left = answers ++ more }
@@ -48,7 +48,7 @@ header_some t z = omega (arith, t.ends, z)
 
 -- ---- in pieces
 -- the theorem: whatever the pieces, a comparison that ends has found what the definition finds in the texts that were left
-pub in_pieces : {n : ℕ} {r : Reading} {events answers : List ℕ} {f : Found} → Ran n r events answers f → goes_on n r events answers ≡ f
+pub in_pieces : {n : ℕ} {r : Reading} {events answers : List ℕ} {f : Found} → Ran n r events answers f → found_onward n r events answers ≡ f
 in_pieces (Went {n} events later answers more m u later-calls) = m.goes_on refl n later more u ∙ in_pieces later-calls
 in_pieces (Decided {n} events later answers more m u h) = m.decides h n later more u
 in_pieces (Settled {n} answers more s seen) = s.settles n more seen

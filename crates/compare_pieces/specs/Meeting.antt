@@ -7,8 +7,8 @@ use Rattle.compare_lines.specs.Comparing.{Found, found_in}
 use Rattle.compare_lines.specs.Judging.{same}
 
 -- what is found from here on, where these events and these answers are left
-abbrev pub goes_on : (agreed : ℕ) → Reading → (events answers : List ℕ) → Found
-goes_on n r events answers = found_in n (to_end (given r events)) answers
+abbrev pub found_onward : (agreed : ℕ) → Reading → (events answers : List ℕ) → Found
+found_onward n r events answers = found_in n (to_end (given r events)) answers
 
 -- what follows the answers that are seen: nothing, unless they are more than any line
 abbrev pub Seen : (answers more : List ℕ) → Type 0
@@ -24,9 +24,9 @@ pub record Meets (follows : List ℕ → Type 0) (r : Reading) (events answers :
   pub within_answers : taken ≤ length answers
   pub few : lines ≤ told
   pub goes_on : verdict ≡ same → (n : ℕ) (later more : List ℕ) → follows more
-      → goes_on n r (events ++ later) (answers ++ more) ≡ goes_on (n + lines) after (drop told events ++ later) (drop taken answers ++ more)
+      → found_onward n r (events ++ later) (answers ++ more) ≡ found_onward (n + lines) after (drop told events ++ later) (drop taken answers ++ more)
   pub decides : (verdict ≡ same → ⊥) → (n : ℕ) (later more : List ℕ) → follows more
-      → goes_on n r (events ++ later) (answers ++ more) ≡ record { verdict = verdict; agreed = n + lines; left = drop taken answers ++ more }
+      → found_onward n r (events ++ later) (answers ++ more) ≡ record { verdict = verdict; agreed = n + lines; left = drop taken answers ++ more }
 
 -- the words, what is beside them, and the bytes that are held of a line that has begun
 pub record Holding (words rows next told kept held : List ℕ) (len : ℕ) : Type 0 where
@@ -39,7 +39,7 @@ pub record Holding (words rows next told kept held : List ℕ) (len : ℕ) : Typ
 pub record Settles (r : Reading) (answers : List ℕ) (verdict lines taken : ℕ) : Type 0 where
   pub within : taken ≤ length answers
   pub settles : (n : ℕ) (more : List ℕ) → Seen answers more
-      → goes_on n r [] (answers ++ more) ≡ record { verdict = verdict; agreed = n + lines; left = drop taken answers ++ more }
+      → found_onward n r [] (answers ++ more) ≡ record { verdict = verdict; agreed = n + lines; left = drop taken answers ++ more }
 
 -- ---- a comparison in pieces
 -- The header is judged, calls follow on what is there of both texts and on what they leave of it, and one at the end of the events.
