@@ -27,7 +27,7 @@ pub struct Last {
     pub byte: u64,
 }
 
-pub fn last(bytes: &[u8]) -> Last {
+pub fn find_last(bytes: &[u8]) -> Last {
     let count = bytes.len();
     if count == 0 {
         return Last {
@@ -58,7 +58,7 @@ pub extern "C" fn ghixramel_wide(number: u32, wide: &mut [u64; 1]) -> u32 {
 
 #[unsafe(no_mangle)]
 pub extern "C" fn ghixramel_last(bytes: &[u8], last: &mut [u8; 1]) -> u32 {
-    let found = ghixramel::last(bytes);
+    let found = ghixramel::find_last(bytes);
     if found.refusal == 0 {
         last[0] = (found.byte % 256) as u8;
     }
@@ -119,6 +119,8 @@ for words in "" none "wasm32 riscv64"; do
     if [ $status -ne 2 ] || [ -s out ] || [ "$(grep -c . said)" -ne $((1 + $(list_targets | grep -c .))) ]; then fail "asked for '$words' it does not list the targets"; fi
 done
 
+# all else is about what is made of it
+tools/library 2>said || { fail "the library was not made: $(tail -n 8 said)" && exit 1; }
 for target in $(list_targets | cut -d ' ' -f 1); do
     made=$(tools/archive "$target" 2>said)
     if [ "$made" != "target/archive/$target/libghixramel.a" ] || [ ! -s "$made" ]; then fail "$target was not made: $(tail -n 3 said)"; fi
