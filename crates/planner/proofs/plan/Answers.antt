@@ -10,7 +10,8 @@ use Rattle.planner.proofs.plan.Goals as goal
 pub returns-then-number-ne0 : goal.returns-then-number-ne0
 returns-then-number-ne0 c =
     let a = c.args in
-    early_refused part24 plannable24 a.start.now a.goal.now a.buf.now c.plan_room.result c.plan_room.ensures.room c.refused_early-number.ensures c.if-number-ne0.true
+    let k = early_refused part24 plannable24 a.start.now a.goal.now a.buf.now c.plan_room.result c.plan_room.ensures.room c.refused_early-number.ensures c.if-number-ne0.true in
+    record { exact = k.0; promise = k.1 }
 
 pub load-s-requires : goal.load-s-requires
 load-s-requires c =
@@ -25,8 +26,9 @@ load-g-requires c =
 pub returns-then-stuck_in-ne0 : goal.returns-then-stuck_in-ne0
 returns-then-stuck_in-ne0 c =
     let a = c.args in
-    stuck_refused part24 plannable24 a.start.now a.goal.now a.buf.now c.plan_room.result c.plan_room.ensures.room (early_passed part24 plannable24 a.start.now a.goal.now a.buf.now c.plan_room.result c.plan_room.ensures.room c.refused_early-number.ensures c.if-number-ne0.false) c.load-s.result c.load-g.result c.load-s.ensures c.load-g.ensures
-    c.stuck_in.result (omega (arith, c.stuck_in.type_inv)) c.stuck_in.ensures c.if-stuck_in-ne0.true
+    let k = stuck_refused part24 plannable24 a.start.now a.goal.now a.buf.now c.plan_room.result c.plan_room.ensures.room (early_passed part24 plannable24 a.start.now a.goal.now a.buf.now c.plan_room.result c.plan_room.ensures.room c.refused_early-number.ensures c.if-number-ne0.false) c.load-s.result c.load-g.result c.load-s.ensures c.load-g.ensures
+    c.stuck_in.result (omega (arith, c.stuck_in.type_inv)) c.stuck_in.ensures c.if-stuck_in-ne0.true in
+    record { exact = k.0; promise = k.1 }
 
 pub open_ports-opened-requires : goal.open_ports-opened-requires
 open_ports-opened-requires c =
@@ -58,6 +60,7 @@ pub returns : goal.returns
 returns c =
     let a = c.args in
     let d = c.put-turned.ensures.0 _ a.buf.now c.open_ports-opened.ensures.0 in
-    laid_out part24 plannable24 a.start.now a.goal.now a.buf.now c.plan_room.result c.plan_room.ensures.room (early_passed part24 plannable24 a.start.now a.goal.now a.buf.now c.plan_room.result c.plan_room.ensures.room c.refused_early-number.ensures c.if-number-ne0.false) c.load-s.result c.load-g.result c.load-s.ensures c.load-g.ensures
+    let k = laid_out part24 plannable24 a.start.now a.goal.now a.buf.now c.plan_room.result c.plan_room.ensures.room (early_passed part24 plannable24 a.start.now a.goal.now a.buf.now c.plan_room.result c.plan_room.ensures.room c.refused_early-number.ensures c.if-number-ne0.false) c.load-s.result c.load-g.result c.load-s.ensures c.load-g.ensures
     c.stuck_in.result (omega (arith, c.stuck_in.type_inv)) c.stuck_in.ensures c.if-stuck_in-ne0.false c.middle-m.result c.middle-m.ensures c.close_ports.result _
-    (c.close_ports.ensures _ a.buf.now d)
+    (c.close_ports.ensures _ a.buf.now d) in
+    record { exact = k.0; promise = k.1 }

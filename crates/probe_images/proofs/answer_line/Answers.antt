@@ -21,8 +21,7 @@ pub put_outcome-requires : goal.put_outcome-requires
 put_outcome-requires c = (step_fits _ (search rules) _ c.step_in-s.ensures, search rules)
 
 pub returns : goal.returns
-returns c =
-    (
-      wrote_as (probed_text _ _ c.is_readable.ensures c.if-not-is_readable.false c.step_in-s.ensures) c.put_outcome.ensures.0,
-      search rules,
-    )
+returns c = (
+  wrote_as (probed_text _ _ c.is_readable.ensures c.if-not-is_readable.false c.step_in-s.ensures) c.put_outcome.ensures.0,
+  search rules,
+)
