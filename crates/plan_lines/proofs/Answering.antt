@@ -1,6 +1,6 @@
 -- The answer to a line, from what was heard of it and what the planner answered. Assumes nothing.
 use mathlib.Core.Path.{◌≡◌, refl, ap, sym, ◌∙◌}
-use mathlib.Core.Bool.{Bool, true, false, and_false}
+use mathlib.Core.Bool.{Bool, true, false, and-false}
 use mathlib.Core.List.{List, [], ◌∷◌}
 use Prim.Native.Nat.{ℕ, ◌*◌, ◌≤◌}
 use native.Mathlib.Omega.{arith}
@@ -59,7 +59,7 @@ module _ (p : Part) (start goal : List ℕ) (n : ℕ) where
 
   pub five_goal : eqb (length goal) (length (registers_of p)) ≡ false → answer_of p start goal n ≡ refuse 5
   unfolding answer_of
-  five_goal h = rw (h, and_false (formed p start))
+  five_goal h = rw (h, and-false (formed p start))
 
 -- ---- the line
 module _ (p : Part) (few : length (registers_of p) ≤ 16) (line : List ℕ) (r : Reading) (held : Holds r line) (n : ℕ) (heard : n ≡ line_refusal p r) where
