@@ -20,7 +20,7 @@ returns-then-number-ne0 c =
 
 pub put_planned-requires : goal.put_planned-requires
 put_planned-requires c =
-    let all : length c.asked-planned.new.1.1.1.0 ≡ 52 = search rules in
+    let all : length c.asked-planned.new.pairs ≡ 52 = search rules in
     let r = c.args.r in
     let m = length (registers_of (part_of c.args.part)) in
     (few_writes c.asked-planned.result (replicate 52 0) _ (answer_of (part_of c.args.part) (take m r.start.bytes) (take m r.goal.bytes) 52) c.asked-planned.ensures all, all, search rules)

@@ -24,12 +24,11 @@ pub loop-rest-smaller : goal.loop-rest-smaller
 loop-rest-smaller c = taken_less _ _ c.loop-rest-test.true c.first_line-took.ensures.1
 
 pub loop-rest-preserved : goal.loop-rest-preserved
-loop-rest-preserved c =
-    (
-      onward_line answer_to answer_short 36 c.loop-rest.invariant.0 c.loop-rest-test.true c.first_line-took.ensures.0.gives c.first_line-took.ensures.1 c.first_line-took.ensures.2,
-      holds_on c.loop-rest.invariant.1 c.first_line-took.ensures.0.holds,
-      c.first_line-took.ensures.3,
-    )
+loop-rest-preserved c = (
+  onward_line answer_to answer_short 36 c.loop-rest.invariant.0 c.loop-rest-test.true c.first_line-took.ensures.0.gives c.first_line-took.ensures.1 c.first_line-took.ensures.2,
+  holds_on c.loop-rest.invariant.1 c.first_line-took.ensures.0.holds,
+  c.first_line-took.ensures.3,
+)
 
 pub returns : goal.returns
 returns c = let d = onward_done answer_to answer_short 36 c.loop-rest.invariant.0 c.loop-rest-test.false in (record { gives = d.0; holds = c.loop-rest.invariant.1 }, d.1, d.2, c.loop-rest.invariant.2)
