@@ -1,7 +1,7 @@
 // Where a comparison of two files stands: the events of a piece met with the answers that they expect, the end of the events, and the line that decides shown.
 #![tactic(auto)]
 
-ghost use Rattle.std.specs.Prelude.{◌≡◌, ◌+◌, ◌≤◌, length, IfOk};
+ghost use Rattle.std.specs.Prelude.{◌≡◌, ℕ, ◌+◌, ◌≤◌, length, IfOk};
 ghost use Rattle.compare_pieces.specs.Meeting.{Holding};
 
 use compare_lines::{AGREES, ENDS_EARLY, SAME};
@@ -158,7 +158,7 @@ pub fn meet_piece(
     requires { Holding words.old rows.old next.old told.old kept.old held.old stand.len × (stand.at ≤ stand.have) × (stand.have ≤ length seen.old) × (64 ≤ length seen.old) }
     ensures stand { IfOk result (λ s. Holding words.new rows.new next.new told.new kept.new held.new s.len
         × (s.at ≤ s.have) × (s.have ≤ length seen.new)) }
-    ensures memory { length seen.new ≡ length seen.old }
+    ensures memory { ((len : ℕ) × Holding words.new rows.new next.new told.new kept.new held.new len) × (length seen.new ≡ length seen.old) }
 {
     let mut line = [0u8; LONGEST];
     let mut s = stand;
