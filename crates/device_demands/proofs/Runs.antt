@@ -115,7 +115,7 @@ never_refused_for_image p ok choice levels id hc hl hi es = run_unbroken p ok (p
 -- power-on on what the rules' run sees, and none of the questions is ever refused
 made : (f : Functions) → Contracts f → (part : ℕ) → part < 2 → (choice levels id : ℕ) → choice < 2 ^ 8 → levels < 2 ^ 64 → id < 2 ^ 64
     → Makes part choice levels id (making f part choice levels id) × Represented (making f part choice levels id).device
-made f c zero known = c.power_on_lem
+made f c zero known = c.power_on
 made f c (suc zero) known = c.power_on34
 made f c (suc (suc n)) known = absurd (omega arith)
 

@@ -52,7 +52,7 @@ answers p s (e ∷ es) = (stepped p s e.kind e.arg).answer ∷ answers p (steppe
 -- ---- the same run on the code's own device
 -- the functions of `Device`, each with its result for its arguments
 pub record Functions : Type 0 where
-  pub power_on_lem : (choice levels id : ℕ) → Made
+  pub power_on : (choice levels id : ℕ) → Made
   pub power_on34 : (choice levels id : ℕ) → Made
   pub step : Device → (kind arg : ℕ) → Stepped
   pub low : Device → Driven
@@ -61,7 +61,7 @@ pub record Functions : Type 0 where
 
 -- the function that makes a device of that part
 abbrev pub making : Functions → (part choice levels id : ℕ) → Made
-making f zero choice levels id = f.power_on_lem choice levels id
+making f zero choice levels id = f.power_on choice levels id
 making f (suc n) choice levels id = f.power_on34 choice levels id
 
 -- what the code says: the answer, and to the three questions a refusal's number and the value
@@ -112,8 +112,8 @@ Askable (e ∷ es) = (e.kind < 2 ^ 32) × (e.arg < 2 ^ 64) × Askable es
 
 -- the contracts as the code has them: of arguments that its types hold, and with results that they hold
 pub record Contracts (f : Functions) : Type 0 where
-  pub power_on_lem : (choice levels id : ℕ) → choice < 2 ^ 8 → levels < 2 ^ 64 → id < 2 ^ 64
-      → Makes 0 choice levels id (f.power_on_lem choice levels id) × Represented (f.power_on_lem choice levels id).device
+  pub power_on : (choice levels id : ℕ) → choice < 2 ^ 8 → levels < 2 ^ 64 → id < 2 ^ 64
+      → Makes 0 choice levels id (f.power_on choice levels id) × Represented (f.power_on choice levels id).device
   pub power_on34 : (choice levels id : ℕ) → choice < 2 ^ 8 → levels < 2 ^ 64 → id < 2 ^ 64
       → Makes 1 choice levels id (f.power_on34 choice levels id) × Represented (f.power_on34 choice levels id).device
   pub step : (d : Device) → Represented d → (kind arg : ℕ) → kind < 2 ^ 32 → arg < 2 ^ 64
