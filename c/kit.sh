@@ -1,7 +1,7 @@
 # shellcheck shell=bash
 # C programs with the Rattle kit's compiler and C library, for x86-64; sourced from the root of the repository.
 
-kit=$(dirname "$(rt doc)")
+kit=$(dirname "$(rt doc </dev/null)")
 tools=$kit/toolchain
 library=target/staticlib/libghixramel.a
 

@@ -53,6 +53,12 @@ grep -q 'proved' said || fail "what rt says is not on standard error"
 { printf 'y'; cat in; } >want
 cmp -s out want || fail "the second run wrote something else"
 
+# a read that fails is the program's to tell: its words and its status come through, and nothing of the launcher's
+"$run" copy y <. >out 2>said
+[ $? -eq 1 ] || fail "a program that cannot read a folder did not end with its own status"
+[ "$(cat out)" = y ] || fail "what a program wrote before its read failed is lost"
+[ "$(grep -c . said)" -eq 1 ] && grep -q '^Error: .*IsADirectory' said || fail "a program that cannot read a folder is told otherwise: $(cat said)"
+
 # a changed source is built again, and one that is not proved is not run
 echo 'fn add(a: u8) -> u8 { a + 1 }' >>"$room/shelf/crates/copy/src/main.rt"
 "$run" copy z <in >out 2>said && fail "an unproved program was run"
