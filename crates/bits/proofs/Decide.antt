@@ -3,7 +3,9 @@ use mathlib.Core.Path.{◌≡◌, refl, ap, sym, ◌∙◌}
 use mathlib.Core.Bool.{Bool, true, false, cond, ◌&&◌, beq}
 use Prim.Native.Nat.{ℕ, zero, suc, ◌+◌, ◌<◌}
 use native.Mathlib.Omega.{arith}
+use mathlib.Core.List.{List}
 use lib.Dec.{T, eqb, eqb→eq}
+use lib.ListN.{get_or}
 
 -- both parts of a test that came out true
 pub both : (a b : Bool) → T (a && b) → T a × T b
@@ -88,6 +90,10 @@ module _ (A : Type 0) (same : A → A → Bool) (sound : (a b : A) → T (same a
 -- `each 256 _ _ tt` proves a statement `(b : ℕ) → b < 256 → l ≡ r` of two numbers
 pub each : (n : ℕ) (f g : ℕ → ℕ) → T (agree_from ℕ eqb n 0 f g) → (k : ℕ) → k < n → f k ≡ g k
 each = decide_below ℕ eqb eqb→eq
+
+-- `each_entry 128 _ _ tt` proves it of a table's entries
+pub each_entry : (n : ℕ) (table : List ℕ) (g : ℕ → ℕ) → T (agree_from ℕ eqb n 0 (λ k. get_or table k 0) g) → (k : ℕ) → k < n → get_or table k 0 ≡ g k
+each_entry n table = each n (λ k. get_or table k 0)
 
 -- and of two Bools
 pub each_bool : (n : ℕ) (f g : ℕ → Bool) → T (agree_from Bool beq n 0 f g) → (k : ℕ) → k < n → f k ≡ g k

@@ -1,5 +1,5 @@
 -- The register map: one list of groups a part, from which all else is computed.
-use Rattle.std.specs.Prelude.{Bool, true, false, cond, not, ◌&&◌, ◌||◌, List, [], ◌∷◌, ◌≡◌, ℕ, zero, suc, ◌+◌, ◌-◌, ◌*◌, ◌%◌, ◌^◌, ◌<◌, min, leb, ltb, eqb, get_or}
+use Rattle.std.specs.Prelude.{Bool, true, false, cond, not, ◌&&◌, ◌||◌, List, [], ◌∷◌, ℕ, zero, suc, ◌+◌, ◌-◌, ◌*◌, ◌%◌, ◌^◌, min, leb, ltb, eqb, get_or}
 
 -- What a group is for. `Stored` groups (drive strength, pulls, debounce) are stored and have no effect.
 pub data Kind : Type 0 where
@@ -160,13 +160,9 @@ unfoldable pub walked : Part → (mode n count : ℕ) → ℕ
 walked p mode n zero = n
 walked p mode n (suc count) = walked p mode (next_in p mode n) count
 
--- the group step as a table has it: the next number, 0 for a reserved one
+-- the group step as a row has it: the next number, 0 for a reserved one
 abbrev pub successor : Part → ℕ → ℕ
 successor p n = cond (reserved p n) 0 (next p n)
-
--- a table of all successors of a part
-abbrev pub Stepping : Part → (table : List ℕ) → Type 0
-Stepping p table = (n : ℕ) → n < 128 → get_or table n 0 ≡ successor p n
 
 -- whether the entries of such a group have a stored value
 abbrev pub stored : Kind → Bool

@@ -2,7 +2,7 @@
 #![tactic(auto)]
 
 ghost use Rattle.std.specs.Prelude.{◌≡◌, ◌-◌, ◌^◌, false};
-ghost use Rattle.map.specs.Map.{part24, part34, part_of, reserved, onward, Stepping};
+ghost use Rattle.map.specs.Map.{part24, part34, part_of, reserved, onward};
 
 // The 24-pin part: every pin, the bits that exist in the output port kind, in debounce enable and in debounce count.
 pub const PINS24: u64 = 0xff_ffff;
@@ -22,25 +22,6 @@ pub const PORT_KIND24: u8 = 0x5c;
 
 pub const PIN_KIND24: u8 = 0x70;
 
-// What the table of successors has for a reserved number.
-const RESERVED: u8 = 0;
-
-// The group step: the successor of each command number.
-pub const NEXT24: [u8; 128] = [
-    0x01, 0x02, 0x00, RESERVED, 0x05, 0x06, 0x04, RESERVED, 0x09, 0x0a, 0x08, RESERVED, 0x0d, 0x0e,
-    0x0c, RESERVED, RESERVED, RESERVED, RESERVED, RESERVED, RESERVED, RESERVED, RESERVED, RESERVED,
-    RESERVED, RESERVED, RESERVED, RESERVED, RESERVED, RESERVED, RESERVED, RESERVED, RESERVED,
-    RESERVED, RESERVED, RESERVED, RESERVED, RESERVED, RESERVED, RESERVED, RESERVED, RESERVED,
-    RESERVED, RESERVED, RESERVED, RESERVED, RESERVED, RESERVED, RESERVED, RESERVED, RESERVED,
-    RESERVED, RESERVED, RESERVED, RESERVED, RESERVED, RESERVED, RESERVED, RESERVED, RESERVED,
-    RESERVED, RESERVED, RESERVED, RESERVED, 0x41, 0x42, 0x43, 0x44, 0x45, 0x40, RESERVED, RESERVED,
-    0x49, 0x4a, 0x48, RESERVED, 0x4d, 0x4e, 0x4c, RESERVED, 0x51, 0x52, 0x50, RESERVED, 0x55, 0x56,
-    0x54, RESERVED, 0x59, 0x5a, 0x58, RESERVED, 0x5c, RESERVED, RESERVED, RESERVED, 0x61, 0x62,
-    0x63, 0x64, 0x65, 0x60, RESERVED, RESERVED, 0x69, 0x6a, 0x68, RESERVED, 0x6d, 0x6e, 0x6c,
-    RESERVED, 0x71, 0x72, 0x70, RESERVED, 0x75, 0x74, 0x76, RESERVED, RESERVED, RESERVED, RESERVED,
-    RESERVED, RESERVED, RESERVED, RESERVED, RESERVED,
-];
-
 // Its sister of 34 pins.
 pub const PINS34: u64 = 0x3_ffff_ffff;
 
@@ -58,21 +39,6 @@ pub const PORT_KIND34: u8 = 0x53;
 
 pub const PIN_KIND34: u8 = 0x68;
 
-// Its group step.
-pub const NEXT34: [u8; 128] = [
-    0x01, 0x02, 0x03, 0x04, 0x00, 0x06, 0x07, 0x08, 0x09, 0x05, 0x0b, 0x0c, 0x0d, 0x0e, 0x0a, 0x10,
-    0x11, 0x12, 0x13, 0x0f, RESERVED, RESERVED, RESERVED, RESERVED, RESERVED, RESERVED, RESERVED,
-    RESERVED, RESERVED, RESERVED, RESERVED, RESERVED, RESERVED, RESERVED, RESERVED, RESERVED,
-    RESERVED, RESERVED, RESERVED, RESERVED, RESERVED, RESERVED, RESERVED, RESERVED, RESERVED,
-    RESERVED, RESERVED, RESERVED, 0x31, 0x32, 0x33, 0x34, 0x35, 0x36, 0x37, 0x38, 0x30, RESERVED,
-    0x3b, 0x3c, 0x3d, 0x3e, 0x3a, 0x40, 0x41, 0x42, 0x43, 0x3f, 0x45, 0x46, 0x47, 0x48, 0x44, 0x4a,
-    0x4b, 0x4c, 0x4d, 0x49, 0x4f, 0x50, 0x51, 0x52, 0x4e, 0x53, 0x55, 0x56, 0x57, 0x58, 0x59, 0x5a,
-    0x5b, 0x5c, 0x54, RESERVED, 0x5f, 0x60, 0x61, 0x62, 0x5e, 0x64, 0x65, 0x66, 0x67, 0x63, 0x69,
-    0x6a, 0x6b, 0x6c, 0x68, 0x6e, 0x6f, 0x6d, RESERVED, RESERVED, RESERVED, RESERVED, RESERVED,
-    RESERVED, RESERVED, RESERVED, RESERVED, RESERVED, RESERVED, RESERVED, RESERVED, RESERVED,
-    RESERVED, RESERVED,
-];
-
 // Of both: the last register number.
 pub const LAST_NUMBER: u8 = 0x7f;
 
@@ -84,17 +50,6 @@ pub fn pins_of(part: u64) -> u64
         return PINS24;
     }
     PINS34
-}
-
-// The group step of the part of that number, written to what a loop is lent: an array that is indexed by its name is built anew at each lookup.
-pub fn put_next(next: &mut [u8; 128], part: u64)
-    ensures { Stepping (part_of part) next.new }
-{
-    if part == 0 {
-        *next = NEXT24;
-        return;
-    }
-    *next = NEXT34;
 }
 
 // The step over the whole map, from a register of the 24-pin part: to the next number, past the reserved ones after these, and from the highest to 00h.

@@ -2,10 +2,10 @@
 use mathlib.Core.Path.{◌≡◌, refl, sym, ap, ap₂, ◌∙◌}
 use mathlib.Core.Bool.{Bool, true, false, cond, not, ◌&&◌, ◌||◌}
 use mathlib.Core.List.{List}
-use Prim.Native.Nat.{ℕ, zero, suc, ◌+◌, ◌-◌, ◌*◌, ◌/◌, ◌%◌, ◌^◌, ◌<◌}
+use Prim.Native.Nat.{ℕ, zero, suc, ◌+◌, ◌-◌, ◌/◌, ◌^◌, ◌<◌}
 use native.Mathlib.Omega.{arith}
 use borrow.Author.Tests.{eqb-true, eqb-false, ne_eqb, ltb-true, ltb-false, lt-ltb, le-ltb}
-use lib.Bits.{bit_and, bit_or}
+use lib.Bits.{bit_and}
 use lib.Dec.{eqb, ltb}
 use Rattle.bits.proofs.Decide.{each, each_bool, clash}
 use Rattle.map.specs.Map.{Part, Kind, part24, part34, kind_at, code, stored, reserved, next, onward, next_in, successor, room_at, part_of}
@@ -16,7 +16,7 @@ use Rattle.words.proofs.Moving.{still}
 use Rattle.words.proofs.Sound.{sound, single, pick, code_small, word_is}
 use Rattle.map.proofs.ByNumber.{kind_is}
 use Rattle.map.proofs.Onward.{onward_known}
-use Rattle.words_rows.specs.Rows.{rule_at, row_at, bare_at, word_in, Numbered, Known}
+use Rattle.words_rows.specs.Rows.{rule_at, row_at, word_in, Numbered, Known}
 
 record Rows (p : Part) : Type 0 where
   pub rules : (n : ℕ) → n < 128 → bit_and (row_at p n) 15 ≡ rule_at p n
@@ -25,7 +25,6 @@ record Rows (p : Part) : Type 0 where
   pub ports : (n : ℕ) → n < 128 → cond (paired (slot_at p n)) 0 (bit_and (row_at p n / 2 ^ 12) 7) ≡ cond (paired (slot_at p n)) 0 (digit_at p n)
   pub fourths : (n : ℕ) → n < 128 → cond (paired (slot_at p n)) (bit_and (row_at p n / 2 ^ 11) 15) 0 ≡ cond (paired (slot_at p n)) (digit_at p n) 0
   pub successors : (n : ℕ) → n < 128 → bit_and (row_at p n / 2 ^ 15) 127 ≡ successor p n
-  pub wholes : (n : ℕ) → n < 128 → bit_or (bare_at p n) (successor p n * 2 ^ 15 % 2 ^ 32) ≡ row_at p n
   pub nexts : (n : ℕ) → n < 128 → cond (reserved p n) false (reserved p (next p n)) ≡ false
   pub existings : (n : ℕ) → n < 128 → cond (reserved p n) 0 (row_at p n / 2 ^ 24) ≡ cond (reserved p n) 0 (2 ^ room_at p n - 1)
   -- a rule says whether the register is kept in two words, whether it is stored, and whether it moves pins
@@ -36,7 +35,7 @@ record Rows (p : Part) : Type 0 where
   pub zeros : (n : ℕ) → n < 128 → eqb (row_at p n) 0 ≡ reserved p n
 
 rows24 : Rows part24
-unfolding row_at bare_at slot_at digit_at kind_at next reserved
+unfolding row_at slot_at digit_at kind_at next reserved
 rows24 = record {
   rules = each 128 _ _ tt;
   words = each 128 _ _ tt;
@@ -44,7 +43,6 @@ rows24 = record {
   ports = each 128 _ _ tt;
   fourths = each 128 _ _ tt;
   successors = each 128 _ _ tt;
-  wholes = each 128 _ _ tt;
   nexts = each_bool 128 _ _ tt;
   existings = each 128 _ _ tt;
   pairs = each_bool 128 _ _ tt;
@@ -55,7 +53,7 @@ rows24 = record {
 }
 
 rows34 : Rows part34
-unfolding row_at bare_at slot_at digit_at kind_at next reserved
+unfolding row_at slot_at digit_at kind_at next reserved
 rows34 = record {
   rules = each 128 _ _ tt;
   words = each 128 _ _ tt;
@@ -63,7 +61,6 @@ rows34 = record {
   ports = each 128 _ _ tt;
   fourths = each 128 _ _ tt;
   successors = each 128 _ _ tt;
-  wholes = each 128 _ _ tt;
   nexts = each_bool 128 _ _ tt;
   existings = each 128 _ _ tt;
   pairs = each_bool 128 _ _ tt;
@@ -76,39 +73,6 @@ rows34 = record {
 rows : (part : ℕ) → Rows (part_of part)
 rows zero = rows24
 rows (suc part) = rows34
-
--- ---- a `match` with an arm for each register
--- one fact more, of a number that is not reserved
-abbrev Besides : Bool → Type 0 → Type 0 → Type 0
-Besides true before here = before
-Besides false before here = before × here
-
--- n is none of the registers below k, as what is left of such a `match` says it
-abbrev Unnamed : (p : Part) (n : ℕ) → ℕ → Type 0
-Unnamed p n zero = Unit {0}
-Unnamed p n (suc k) = Besides (reserved p k) (Unnamed p n k) (n ≡ k → ⊥)
-
--- at k itself, or below
-unnamed_last : (p : Part) (k n : ℕ) → n < suc k → (n < k → Unnamed p n k → reserved p n ≡ true) → (t : Bool) → reserved p k ≡ t → Besides t (Unnamed p n k) (n ≡ k → ⊥)
-    → reserved p n ≡ true
-unnamed_last p k n h below true e u = go (eqb n k) refl
-  where
-    go : (t : Bool) → eqb n k ≡ t → reserved p n ≡ true
-    go true q = ap (reserved p) (eqb-true n k q) ∙ e
-    go false q = below (omega (arith, eqb-false n k q)) u
-unnamed_last p k n h below false e u = below (omega (arith, u.1)) u.0
-
-unnamed_reserved : (p : Part) (k n : ℕ) → n < k → Unnamed p n k → reserved p n ≡ true
-unnamed_reserved p zero n h u = absurd (omega arith)
-unnamed_reserved p (suc k) n h u = unnamed_last p k n h (unnamed_reserved p k n) (reserved p k) refl u
-
--- so it is reserved, and its row is 0
-pub reserved_row : (part n : ℕ) → n < 128 → Unnamed (part_of part) n 128 → 0 ≡ row_at (part_of part) n
-reserved_row part n h u = sym (eqb-true (row_at (part_of part) n) 0 ((rows part).zeros n h ∙ unnamed_reserved (part_of part) 128 n h u))
-
--- a row out of a part's two tables
-pub whole_row : (part n : ℕ) → n < 128 → bit_or (bare_at (part_of part) n) (successor (part_of part) n * 2 ^ 15 % 2 ^ 32) ≡ row_at (part_of part) n
-whole_row part = (rows part).wholes
 
 module _ (row part n : ℕ) (hn : n < 128) (e : row ≡ row_at (part_of part) n) where
   pub rule_of : bit_and row 15 ≡ rule_at (part_of part) n

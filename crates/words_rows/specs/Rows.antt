@@ -1,7 +1,7 @@
 -- What a register number means to the engine, as one number, its row: computed from the part's map.
-use Rattle.std.specs.Prelude.{◌≡◌, false, cond, List, ℕ, ◌+◌, ◌-◌, ◌*◌, ◌/◌, ◌^◌, ◌<◌, eqb, get_or}
+use Rattle.std.specs.Prelude.{◌≡◌, false, cond, List, ℕ, ◌+◌, ◌-◌, ◌*◌, ◌/◌, ◌^◌, ◌<◌, eqb}
 use Rattle.std.specs.Int.Bits.{bit_and}
-use Rattle.map.specs.Map.{Part, kind_at, code, reserved, next, Stepping, room_at, part_of}
+use Rattle.map.specs.Map.{Part, kind_at, code, reserved, next, room_at, part_of}
 use Rattle.words.specs.Words.{slot_at, digit_at, paired, strength_word, Fit}
 
 -- what writing and reading it does: its kind's number; 14 for drive strength, which is stored like the others but in two words
@@ -18,20 +18,6 @@ unfoldable pub row_at : Part → ℕ → ℕ
 row_at p n =
     cond (reserved p n) 0
     (rule_at p n + slot_at p n * 2 ^ 4 + shift_at p n * 2 ^ 9 + next p n * 2 ^ 15 + (2 ^ room_at p n - 1) * 2 ^ 24)
-
--- the row but for its successor
-unfoldable pub bare_at : Part → ℕ → ℕ
-bare_at p n = cond (reserved p n) 0 (rule_at p n + slot_at p n * 2 ^ 4 + shift_at p n * 2 ^ 9 + (2 ^ room_at p n - 1) * 2 ^ 24)
-
--- a table of all these of a part
-abbrev pub Rowed : Part → (rows : List ℕ) → Type 0
-Rowed p rows = (n : ℕ) → n < 128 → get_or rows n 0 ≡ bare_at p n
-
--- what a loop is lent of part c: its rows, its successors, its pins
-pub record Tabled (c : ℕ) (rows next : List ℕ) (pins : ℕ) : Type 0 where
-  pub rowed : Rowed (part_of c) rows
-  pub stepping : Stepping (part_of c) next
-  pub pins_are : pins ≡ 2 ^ (part_of c).width - 1
 
 -- the word that a row names, of whatever number it is
 abbrev pub word_in : ℕ → ℕ
