@@ -2,15 +2,39 @@
 // Which images, events and makings are refused, by number, and what the others give: see specs/ for the definitions and proofs/ for their laws.
 #![tactic(auto)]
 
+ghost use Rattle.std.specs.Prelude.{◌≡◌, [], ◌∷◌, eqb};
+ghost use Rattle.device_rules.specs.Answers.{answer_kind, answer_byte};
+
 use pins::Sets;
 
-#[derive(Clone, Copy)]
+#[derive(Clone, Copy, PartialEq, Eq)]
 pub enum Answer {
     Nothing,
     Ack,
     Nak,
     Byte(u8),
     Refused(u8),
+}
+
+impl Answer {
+    pub fn is_refusal(self) -> bool
+        ensures { result ≡ eqb (answer_kind self) 4 }
+    {
+        matches!(self, Answer::Refused(_))
+    }
+
+    // Its kind and the byte read, as a caller has them; a refusal is no answer, and goes by 4.
+    pub fn told(self) -> [u8; 2]
+        ensures { result ≡ answer_kind self ∷ answer_byte self ∷ [] }
+    {
+        match self {
+            Answer::Nothing => [0, 0],
+            Answer::Ack => [1, 0],
+            Answer::Nak => [2, 0],
+            Answer::Byte(byte) => [3, byte],
+            Answer::Refused(_) => [4, 0],
+        }
+    }
 }
 
 // The state beside the register file.

@@ -4,28 +4,19 @@
 ghost use Rattle.std.specs.Prelude.{◌≡◌, cond};
 ghost use Rattle.device_rules.specs.Answers.{refusal_number};
 ghost use Rattle.planner_promise.specs.Promise.{refusal_of};
-ghost use Rattle.words_state.specs.Packed.{answer_at};
 ghost use Rattle.host_words.specs.Host.{told_as, writes_after};
 
+use device_rules::Answer;
 use planner_promise::Planned;
 
-// The kind of a byte read, and the last of an answer: what is above is a refusal's.
-const READ: u32 = 3;
-
-// An answer that is given as a number, told as its kind and its byte; a refusal as its number alone.
-pub fn tell(number: u32, told: &mut [u8; 2]) -> u32
-    ensures { (result ≡ refusal_number (answer_at number))
-        × (told.new ≡ told_as (answer_at number) told.old) }
+// An answer told as its kind and its byte; a refusal as its number alone.
+pub fn tell(answer: Answer, told: &mut [u8; 2]) -> u32
+    ensures { (result ≡ refusal_number answer) × (told.new ≡ told_as answer told.old) }
 {
-    let kind = number % 256;
-    if READ < kind {
-        return number / 256 % 256;
+    if let Answer::Refused(number) = answer {
+        return u32::from(number);
     }
-    if kind == READ {
-        *told = [kind as u8, (number / 256 % 256) as u8];
-        return 0;
-    }
-    *told = [kind as u8, 0];
+    *told = answer.told();
     0
 }
 

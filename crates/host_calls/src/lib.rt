@@ -32,8 +32,8 @@ pub fn power_on(words: &mut [u64; 28], part: u64, choice: u32, levels: u64, numb
 pub fn step(words: &mut [u64; 28], part: u64, kind: u32, argument: u64, answer: &mut [u8; 2]) -> u32
     ensures { Told part words.old kind argument result words.new answer.old answer.new }
 {
-    let number = words_device::step(words, part, kind, argument);
-    host_answers::tell(number, answer)
+    let stepped = words_device::step(words, part, kind, argument);
+    host_answers::tell(stepped, answer)
 }
 
 // The pins driven low and high.

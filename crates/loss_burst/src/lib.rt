@@ -28,8 +28,7 @@ pub fn burst(
         *done = [0];
         return 0;
     }
-    let pins = map::pins_of(part);
-    if !loss_sets::fit(&*marks, pins) {
+    if !loss_sets::fit(&*marks, map::pins_of(part)) {
         *done = [0];
         return BROKEN;
     }
@@ -37,19 +36,5 @@ pub fn burst(
         *done = [0];
         return BROKEN;
     }
-    let mut rows = [0; 128];
-    let mut next = [0; 128];
-    words_tables::put_rows(&mut rows, part);
-    map::put_next(&mut next, part);
-    loss_runs::run(
-        words,
-        marks,
-        &rows,
-        &next,
-        pins,
-        events,
-        asked as usize,
-        answers,
-        done,
-    )
+    loss_runs::run(words, marks, events, asked as usize, answers, done)
 }

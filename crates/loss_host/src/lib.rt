@@ -14,6 +14,6 @@ pub fn step(
 ) -> u32
     ensures { MarkedTold part words.old marks.old kind argument result words.new marks.new answer.old answer.new }
 {
-    let number = loss_marks::step(words, marks, part, kind, argument);
-    host_answers::tell(number, answer)
+    let stepped = loss_marks::step(words, marks, part, kind, argument);
+    host_answers::tell(stepped, answer)
 }

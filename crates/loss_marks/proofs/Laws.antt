@@ -7,9 +7,6 @@ use borrow.Author.Tests.{eq-eqb, ne_eqb, le-leb, ltb-true, ltb-false}
 use lib.Dec.{eqb, ltb, leb}
 use Rattle.device_rules.specs.Device.{State}
 use Rattle.device_rules.specs.Refusals.{event_of}
-use Rattle.device_rules.specs.Answers.{answer_kind}
-use Rattle.words_state.specs.Packed.{answer_at}
-use Rattle.words_state.proofs.Told.{refused_told, answered_told}
 use Rattle.loss_rules.specs.Marks.{is_reset}
 
 -- STOP, and every other kind
@@ -23,12 +20,3 @@ kind_resets s (suc (suc zero)) arg h = refl
 kind_resets s (suc (suc (suc zero))) arg h = refl
 kind_resets s (suc (suc (suc (suc zero)))) arg h = refl
 kind_resets s (suc (suc (suc (suc (suc kind))))) arg h = le-leb 5 (suc (suc (suc (suc (suc kind))))) (omega arith)
-
-pub refused_is_lem : (n : ℕ) → ltb 3 (n % 256) ≡ eqb (answer_kind (answer_at n)) 4
-refused_is_lem n = go (ltb 3 (n % 256)) refl
-  where
-    go : (t : Bool) → ltb 3 (n % 256) ≡ t → t ≡ eqb (answer_kind (answer_at n)) 4
-    go true h = sym (eq-eqb _ 4 (refused_told n (ltb-true 3 (n % 256) h)).0)
-    go false h =
-        let k : n % 256 ≤ 3 = ltb-false 3 (n % 256) h in
-        sym (ne_eqb (answer_kind (answer_at n)) 4 (λ e. omega (arith, (answered_told n (omega arith)).0, e, k)))

@@ -1,26 +1,22 @@
 // A device with loss marks, in memory that is lent: its words, and beside them the marks.
 #![tactic(auto)]
 
-ghost use Rattle.std.specs.Prelude.{◌≡◌, ℕ, eqb};
+ghost use Rattle.std.specs.Prelude.{◌≡◌, ℕ};
 ghost use Rattle.map.specs.Map.{Part};
 ghost use Rattle.device_rules.specs.Refusals.{event_of};
-ghost use Rattle.device_rules.specs.Answers.{answer_kind};
-ghost use Rattle.words_state.specs.Packed.{state_in, answer_at};
+ghost use Rattle.words_state.specs.Packed.{state_in};
 ghost use Rattle.loss_rules.specs.Marks.{is_reset};
 ghost use Rattle.loss_marks.specs.Lent.{MarkedSteps, Signs};
 
-use device_rules::{RESET, STOP};
+use device_rules::{Answer, BAD_IMAGE, RESET, STOP};
 use loss_sets::{BAD_ARGUMENT, HEALTHY};
 use words::{BUS, STATUS};
-use words_state::{ARMED, WRONG_IMAGE};
+use words_state::ARMED;
 
 // Refusals as a caller has them, beside that of `loss_sets`; 0 is none.
 pub const BROKEN: u32 = 3;
 
 pub const NOT_HEALTHY: u32 = 13;
-
-// The last kind of an answer that is no refusal.
-const LAST_ANSWER: u32 = 3;
 
 // Whether an event of this kind resets the device. A kind over the last one is refused, and nobody asks.
 pub fn is_reset(words: &[u64; 28], kind: u32) -> bool
@@ -32,24 +28,17 @@ pub fn is_reset(words: &[u64; 28], kind: u32) -> bool
     RESET <= kind
 }
 
-// Whether an answer that is given as a number is a refusal.
-pub fn is_refused(number: u32) -> bool
-    ensures { result ≡ eqb (answer_kind (answer_at number)) 4 }
-{
-    LAST_ANSWER < number % 256
-}
-
 // One event of the part, whatever words and marks hold.
-pub fn step(words: &mut [u64; 28], marks: &mut [u64; 2], part: u64, kind: u32, arg: u64) -> u32
-    ensures { MarkedSteps part words.old words.new marks.old marks.new kind arg (answer_at result) }
+pub fn step(words: &mut [u64; 28], marks: &mut [u64; 2], part: u64, kind: u32, arg: u64) -> Answer
+    ensures { MarkedSteps part words.old words.new marks.old marks.new kind arg result }
 {
     if !loss_sets::fit(&*marks, map::pins_of(part)) {
-        return WRONG_IMAGE;
+        return Answer::Refused(BAD_IMAGE);
     }
     let before = words[STATUS];
     let resets = is_reset(&*words, kind);
     let answer = words_device::step(words, part, kind, arg);
-    if is_refused(answer) {
+    if answer.is_refusal() {
         return answer;
     }
     loss_notes::note(marks, resets, before, words[STATUS]);

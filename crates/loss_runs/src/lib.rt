@@ -3,8 +3,7 @@
 
 ghost use Rattle.std.specs.Prelude.{◌≡◌, true, ℕ, ◌+◌, ◌*◌, ◌≤◌, length, get_or};
 ghost use Rattle.map.specs.Map.{part_of};
-ghost use Rattle.words_rows.specs.Rows.{Tabled};
-ghost use Rattle.words_state.specs.Packed.{state_in, answer_at, Packed, Leaves};
+ghost use Rattle.words_state.specs.Packed.{state_in, Packed, Leaves};
 ghost use Rattle.words_device.specs.Named.{Named};
 ghost use Rattle.words_events.specs.Events.{event_at, sent_of, one};
 ghost use Rattle.words_runs.specs.Runs.{ran, Left};
@@ -16,61 +15,46 @@ use device_rules::Answer;
 use words::STATUS;
 
 // The event of number i, and what it sets is marked.
-fn take(
-    words: &mut [u64; 28],
-    marks: &mut [u64; 2],
-    rows: &[u32; 128],
-    next: &[u8; 128],
-    pins: u64,
-    events: &[u8],
-    i: usize,
-) -> u32
-    requires { Named words.old × Tabled (get_or words.old 27 0) rows.now next.now pins × (12 * i + 12 ≤ length events.now) }
-    ensures { ((c : ℕ) → Packed c words.old → Leaves c words.new (answer_at result) (one (part_of c) (state_in (part_of c) words.old) (event_at events.now i)))
+fn take(words: &mut [u64; 28], marks: &mut [u64; 2], events: &[u8], i: usize) -> Answer
+    requires { Named words.old × (12 * i + 12 ≤ length events.now) }
+    ensures { ((c : ℕ) → Packed c words.old → Leaves c words.new result (one (part_of c) (state_in (part_of c) words.old) (event_at events.now i)))
         × ((c : ℕ) → Packed c words.old → marks_fit (part_of c) (marks_in marks.old) ≡ true
         → marks_in marks.new ≡ marked_by (part_of c) (state_in (part_of c) words.old) (event_at events.now i) (marks_in marks.old)) }
 {
     let before = words[STATUS];
     let kind = words_events::word_at(events, 12 * i);
     let resets = loss_marks::is_reset(&*words, kind);
-    let number = words_taking::take(words, rows, next, pins, events, i);
-    if loss_marks::is_refused(number) {
-        return number;
+    let answer = words_taking::take(words, events, i);
+    if answer.is_refusal() {
+        return answer;
     }
     loss_notes::note(marks, resets, before, words[STATUS]);
-    number
+    answer
 }
 
 // The events in order, until one is refused.
 pub fn run(
     words: &mut [u64; 28],
     marks: &mut [u64; 2],
-    rows: &[u32; 128],
-    next: &[u8; 128],
-    pins: u64,
     events: &[u8],
     asked: usize,
     answers: &mut [u8],
     done: &mut [u64; 1],
 ) -> u32
-    requires { Named words.old × Tabled (get_or words.old 27 0) rows.now next.now pins × (12 * asked ≤ length events.now) × (2 * asked ≤ length answers.old)
+    requires { Named words.old × (12 * asked ≤ length events.now) × (2 * asked ≤ length answers.old)
         × (marks_fit (part_of (get_or words.old 27 0)) (marks_in marks.old) ≡ true) }
     ensures { ((c : ℕ) → Packed c words.old → Left c (ran (part_of c) (state_in (part_of c) words.old) (sent_of events.now 0 asked)) result
         words.new answers.old answers.new done.new)
         × ((c : ℕ) → Packed c words.old
         → marks_in marks.new ≡ marks_over (part_of c) (state_in (part_of c) words.old) (marks_in marks.old) (sent_of events.now 0 asked)) }
 {
-    let mut i = 0;
-    while i < asked {
-        let number = take(words, marks, rows, next, pins, events, i);
-        let answer = words_state::answer(number);
-        let Answer::Refused(refusal) = answer else {
-            words_events::put(answers, i, number);
-            i += 1;
-            continue;
-        };
-        *done = [i as u64];
-        return refusal as u32;
+    for i in 0..asked {
+        let answer = take(words, marks, events, i);
+        if let Answer::Refused(refusal) = answer {
+            *done = [i as u64];
+            return u32::from(refusal);
+        }
+        words_events::put(answers, i, answer);
     }
     *done = [asked as u64];
     0

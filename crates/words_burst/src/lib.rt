@@ -31,19 +31,5 @@ pub fn burst(
         *done = [0];
         return BROKEN;
     }
-    let mut rows = [0; 128];
-    let mut next = [0; 128];
-    words_tables::put_rows(&mut rows, part);
-    map::put_next(&mut next, part);
-    let pins = map::pins_of(part);
-    words_runs::run(
-        words,
-        &rows,
-        &next,
-        pins,
-        events,
-        asked as usize,
-        answers,
-        done,
-    )
+    words_runs::run(words, events, asked as usize, answers, done)
 }

@@ -1,3 +1,2 @@
-pub mod Answering
 pub mod Naming
 pub mod Powering

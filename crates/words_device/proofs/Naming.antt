@@ -5,13 +5,9 @@ use lib.ListN.{get_or}
 use Rattle.map.specs.Map.{part_of}
 use Rattle.device_rules.specs.Refusals.{stepped}
 use Rattle.device_rules.specs.declared.Answer.{Answer}
-use Rattle.words_rows.specs.Rows.{Tabled}
 use Rattle.words_state.specs.Packed.{state_in, Packed, Leaves}
 use Rattle.words_device.specs.Named.{Obeys}
 
 module _ (c : ℕ) (w : List ℕ) (k : Packed c w) where
-  pub its_tables : {rows next : List ℕ} {pins : ℕ} → Tabled c rows next pins → Tabled (get_or w 27 0) rows next pins
-  its_tables t = rw k.part_is t
-
   pub obeyed : (kind arg : ℕ) {w' : List ℕ} {a : Answer} → Obeys w w' kind arg a → Leaves c w' a (stepped (part_of c) (state_in (part_of c) w) kind arg)
   obeyed kind arg l = rw k.part_is at l

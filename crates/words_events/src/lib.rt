@@ -3,36 +3,30 @@
 
 ghost use Rattle.std.specs.Prelude.{◌≡◌, ◌+◌, ◌*◌, ◌≤◌, false, eqb, length, set};
 ghost use Rattle.device_rules.specs.Answers.{answer_kind, answer_byte};
-ghost use Rattle.words_state.specs.Packed.{answer_at};
 ghost use Rattle.words_events.specs.Events.{word_at, eight};
+
+use device_rules::Answer;
 
 const EVENT_BYTES: u64 = 12;
 
 const MOST_EVENTS: u64 = 512;
-
-fn wide(b: u8) -> u32
-    ensures { (result ≡ b) × (result ≤ 255) }
-{
-    b as u32
-}
 
 // Four bytes from a place on, lowest first.
 pub fn word_at(bytes: &[u8], at: usize) -> u32
     requires { at + 4 ≤ length bytes.now }
     ensures { result ≡ word_at bytes.now at }
 {
-    let low = wide(bytes[at + 1]) * 256 + wide(bytes[at]);
-    let high = wide(bytes[at + 3]) * 256 + wide(bytes[at + 2]);
-    high * 65536 + low
+    u32::from_le_bytes([bytes[at], bytes[at + 1], bytes[at + 2], bytes[at + 3]])
 }
 
 // The answer of event number i, which is no refusal: its kind and the byte read.
-pub fn put(answers: &mut [u8], i: usize, number: u32)
-    requires { (2 * i + 2 ≤ length answers.old) × (eqb (answer_kind (answer_at number)) 4 ≡ false) }
-    ensures { answers.new ≡ set (set answers.old (2 * i) (answer_kind (answer_at number))) (2 * i + 1) (answer_byte (answer_at number)) }
+pub fn put(answers: &mut [u8], i: usize, answer: Answer)
+    requires { (2 * i + 2 ≤ length answers.old) × (eqb (answer_kind answer) 4 ≡ false) }
+    ensures { answers.new ≡ set (set answers.old (2 * i) (answer_kind answer)) (2 * i + 1) (answer_byte answer) }
 {
-    answers[2 * i] = (number % 256) as u8;
-    answers[2 * i + 1] = words_state::byte_read(number);
+    let [kind, byte] = answer.told();
+    answers[2 * i] = kind;
+    answers[2 * i + 1] = byte;
 }
 
 // What refusal 8 tests.

@@ -1,7 +1,9 @@
 // Whether words are the packing of a well-formed image, as refusal 3 asks.
 #![tactic(auto)]
 
-ghost use Rattle.std.specs.Prelude.{◌≡◌, true};
+ghost use Rattle.std.specs.Prelude.{◌≡◌, ◌<◌, true};
+ghost use Rattle.map.specs.Map.{part_of};
+ghost use Rattle.words.specs.Words.{Fit};
 ghost use Rattle.words_state.specs.Packed.{Packed, Judged};
 
 use map::{
@@ -10,46 +12,46 @@ use map::{
 };
 use words::POINTER;
 
-// The row of the register at the pointer, if the words are the packing of a well-formed image of the 24-pin part; else 0.
-fn judged24(words: &[u64; 28]) -> u32
-    ensures { Judged 0 words.now result }
+// What is set in the words of registers and pins, and does not exist in the part.
+fn spare_in<const PART: u64>(words: &[u64; 28]) -> u64
+    requires { PART < 2 }
+    ensures { (result ≡ 0 → Fit (part_of PART) words.now) × (Fit (part_of PART) words.now → result ≡ 0) }
 {
-    let spare = words_spare::spare(words, PINS24, PORT_KINDS24, DEBOUNCED24, DEBOUNCE_COUNT24);
-    if !words_bounds::bounded(words, 0, spare) {
-        return 0;
+    if PART == 0 {
+        return words_spare::spare(words, PINS24, PORT_KINDS24, DEBOUNCED24, DEBOUNCE_COUNT24);
     }
-    words_rows24::row24(words[POINTER])
+    words_spare::spare(words, PINS34, PORT_KINDS34, DEBOUNCED34, DEBOUNCE_COUNT34)
 }
 
-// And of its sister. One function for both, with the limits as arguments, is a call of six of them in every step.
-fn judged34(words: &[u64; 28]) -> u32
-    ensures { Judged 1 words.now result }
+// The row of the register at the pointer, if the words are the packing of a well-formed image of the part.
+fn judged_as<const PART: u64>(words: &[u64; 28]) -> Option<u32>
+    requires { PART < 2 }
+    ensures { Judged PART words.now result }
 {
-    let spare = words_spare::spare(words, PINS34, PORT_KINDS34, DEBOUNCED34, DEBOUNCE_COUNT34);
-    if !words_bounds::bounded(words, 1, spare) {
-        return 0;
+    if !words_bounds::bounded(words, PART, spare_in::<PART>(words)) {
+        return None;
     }
-    words_rows34::row34(words[POINTER])
+    let row = words_tables::row_of(PART, words[POINTER]);
+    if row == 0 {
+        return None;
+    }
+    Some(row)
 }
 
 // The same of the part of that number: there is no third.
-pub fn judged(words: &[u64; 28], part: u64) -> u32
+pub fn judged(words: &[u64; 28], part: u64) -> Option<u32>
     ensures { Judged part words.now result }
 {
     match part {
-        0 => judged24(words),
-        1 => judged34(words),
-        _ => 0,
+        0 => judged_as::<0>(words),
+        1 => judged_as::<1>(words),
+        _ => None,
     }
 }
 
-// Whether the words are the packing of a well-formed image of the part. By `judged`, with a second caller, every step would call that.
+// Whether the words are the packing of a well-formed image of the part.
 pub fn fits(words: &[u64; 28], part: u64) -> bool
     ensures { (result ≡ true → Packed part words.now) × (Packed part words.now → result ≡ true) }
 {
-    match part {
-        0 => judged24(words) != 0,
-        1 => judged34(words) != 0,
-        _ => false,
-    }
+    judged(words, part).is_some()
 }

@@ -5,8 +5,9 @@ ghost use Rattle.std.specs.Prelude.{◌≡◌, ℕ, ◌<◌, get_or};
 ghost use Rattle.map.specs.Map.{part_of};
 ghost use Rattle.device_rules.specs.Device.{byte_at, next_place, step as step_of};
 ghost use Rattle.device_rules.specs.Device.Event.{ByteFetched};
-ghost use Rattle.words_state.specs.Packed.{id_in, state_in, answer_at, Packed, Leaves};
+ghost use Rattle.words_state.specs.Packed.{id_in, state_in, Packed, Leaves};
 
+use device_rules::Answer;
 use words::{ID, PLACE};
 use words_state::DEAF;
 
@@ -36,12 +37,12 @@ fn next_place(place: u64) -> u64
 }
 
 // A fetch in Telling.
-pub fn tell(words: &mut [u64; 28], acknowledged: bool) -> u32
+pub fn tell(words: &mut [u64; 28], acknowledged: bool) -> Answer
     requires { Packed (get_or words.old 27 0) words.old }
     ensures { (c : ℕ) → Packed c words.old → get_or words.old 22 0 ≡ 11
-        → Leaves c words.new (answer_at result) (step_of (part_of c) (state_in (part_of c) words.old) (ByteFetched acknowledged)) }
+        → Leaves c words.new result (step_of (part_of c) (state_in (part_of c) words.old) (ByteFetched acknowledged)) }
 {
-    let answer = words_state::read(byte_told(&*words));
+    let answer = Answer::Byte(byte_told(&*words));
     if !acknowledged {
         return words_state::goes(words, DEAF, answer);
     }

@@ -22,17 +22,6 @@ use Rattle.words_events.specs.Events.{Sent, event_at, sent_of, one}
 use Rattle.words_runs.specs.Runs.{Ran, ended, onto, two_of, after_one, ran, Left}
 use Rattle.words_events.proofs.Doing.{sent_first, refused_same}
 
--- an answer of one of the first four kinds is no refusal
-no_refusal : (a : Answer) → OneOf (0 ∷ 1 ∷ 2 ∷ 3 ∷ []) (tag_of the_type a) → eqb (answer_kind a) 4 ≡ false
-no_refusal Nothing k = refl
-no_refusal Ack k = refl
-no_refusal Nak k = refl
-no_refusal (Byte b) k = refl
-no_refusal (Refused n) k = absurd (⊎_elim (λ e. omega arith) (⊎_elim (λ e. omega arith) (⊎_elim (λ e. omega arith) (λ e. omega arith))) k)
-
-pub answered : {a b : Answer} → a ≡ b → OneOf (0 ∷ 1 ∷ 2 ∷ 3 ∷ []) (tag_of the_type a) → eqb (answer_kind b) 4 ≡ false
-answered {a} e k = subst (λ (a : Answer). eqb (answer_kind a) 4 ≡ false) e (no_refusal a k)
-
 -- ---- one event of a run
 module _ (p : Part) (s : State) (e : Sent) (es : List Sent) where
   by_outcome : {o : Outcome} → o ≡ one p s e → ran p s (e ∷ es) ≡ after_one s o (λ s. ran p s es)

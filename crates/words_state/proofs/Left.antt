@@ -26,7 +26,7 @@ use Rattle.words.proofs.Sound.{sound}
 use Rattle.words.proofs.Writing.{file_beside}
 use Rattle.words_rows.specs.Rows.{row_at}
 use Rattle.words_rows.proofs.Taken.{row_zero}
-use Rattle.words_state.specs.Packed.{id_in, state_in, answer_at, Packed, Becomes, Leaves}
+use Rattle.words_state.specs.Packed.{id_in, state_in, Packed, Becomes, Leaves}
 
 -- a word below the Device ID's
 id_past : (w : List ℕ) (s x : ℕ) → s < 25 → id_in (set w s x) ≡ id_in w
@@ -244,21 +244,3 @@ in_bus_lem c w v n e l = record { outcome = at_bus (part_of c) (state_in (part_o
 
 pub by_rule : {c : ℕ} {w : List ℕ} {a : Answer} {o o' : Outcome} → Leaves c w a o → o ≡ o' → Leaves c w a o'
 by_rule l q = record { outcome = l.outcome ∙ q; packed = l.packed }
-
--- ---- answers as numbers
-pub byte_answer : (b : ℕ) → b < 256 → answer_at (b * 256 + 3) ≡ Byte b
-byte_answer b h =
-    let q : (b * 256 + 3) / 256 ≡ b = digits_div b (omega arith) in
-    let r : (b * 256 + 3) % 256 ≡ 3 = digits_mod b (omega arith) in
-    let z : b % 256 ≡ b = mod-eq_of_lt h in
-    ap₂ (λ (k v : ℕ). get_or (Nothing ∷ Ack ∷ Nak ∷ Byte v ∷ []) k (Refused v)) r (ap (λ (x : ℕ). x % 256) q ∙ z)
-
-pub answer_by : (n k : ℕ) → n % 256 ≡ k → get_or (Nothing ∷ Ack ∷ Nak ∷ Byte (n / 256 % 256) ∷ []) k (Refused (n / 256 % 256)) ≡ answer_at n
-answer_by n k e = ap (λ (k : ℕ). get_or (Nothing ∷ Ack ∷ Nak ∷ Byte (n / 256 % 256) ∷ []) k (Refused (n / 256 % 256))) (sym e)
-
-pub answer_rest : (n k : ℕ) → n % 256 ≡ k → (k ≡ 0 → ⊥) → (k ≡ 1 → ⊥) → (k ≡ 2 → ⊥) → (k ≡ 3 → ⊥) → Refused (n / 256 % 256) ≡ answer_at n
-answer_rest n zero e a b c d = absurd (a refl)
-answer_rest n (suc zero) e a b c d = absurd (b refl)
-answer_rest n (suc (suc zero)) e a b c d = absurd (c refl)
-answer_rest n (suc (suc (suc zero))) e a b c d = absurd (d refl)
-answer_rest n (suc (suc (suc (suc k)))) e a b c d = answer_by n (suc (suc (suc (suc k)))) e

@@ -1,4 +1,3 @@
 pub mod Judging
 pub mod Left
 pub mod Standing
-pub mod Told

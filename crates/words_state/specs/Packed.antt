@@ -1,9 +1,9 @@
 -- The state that the words hold, which words are the packing of a well-formed image, and what a step on them promises.
-use Rattle.std.specs.Prelude.{◌≡◌, false, List, [], ◌∷◌, ℕ, ◌/◌, ◌%◌, ◌^◌, ◌<◌, get_or}
+use Rattle.std.specs.Prelude.{◌≡◌, false, List, ℕ, ◌^◌, ◌<◌, get_or, Option, Some, None}
 use Rattle.map.specs.Map.{Part, reserved, part_of}
 use Rattle.device_rules.specs.Device.{Identity, State, Outcome, identity, state, out}
 use Rattle.device_rules.specs.declared.Answer.{Answer}
-use Rattle.device_rules.specs.declared.Answer.TheVariants.{Nothing, Ack, Nak, Byte, Refused}
+use Rattle.device_rules.specs.declared.Answer.TheVariants.{Refused}
 use Rattle.device_rules.specs.Refusals.{stepped}
 use Rattle.registers.specs.Registers.{Core}
 use Rattle.registers.specs.Interrupt.{worked_out}
@@ -64,10 +64,6 @@ pub record Becomes (c : ℕ) (w w' : List ℕ) (after : Core) : Type 0 where
   pub right : interrupt_in w' ≡ worked_out (part_of c) after
   pub rest : (s : ℕ) → 20 < s → get_or w' s 0 ≡ get_or w s 0
 
--- an answer as one number: its kind, and from bit 8 on the byte read or the refusal's number
-abbrev pub answer_at : ℕ → Answer
-answer_at n = get_or (Nothing ∷ Ack ∷ Nak ∷ Byte (n / 256 % 256) ∷ []) (n % 256) (Refused (n / 256 % 256))
-
 -- the answer and the words left: those of the outcome, and packed again
 pub record Leaves (c : ℕ) (w : List ℕ) (answer : Answer) (o : Outcome) : Type 0 where
   pub outcome : out answer (state_in (part_of c) w) ≡ o
@@ -79,11 +75,11 @@ pub record Steps (c : ℕ) (w w' : List ℕ) (kind arg : ℕ) (answer : Answer) 
   pub broken : (Packed c w → ⊥) → answer ≡ Refused 3
   pub refused : (n : ℕ) → answer ≡ Refused n → w' ≡ w
 
--- the row of the register at the pointer, of words that are packed; 0 of any others
-pub record Judged (c : ℕ) (w : List ℕ) (row : ℕ) : Type 0 where
-  pub packed : (row ≡ 0 → ⊥) → Packed c w
-  pub row_is : (row ≡ 0 → ⊥) → row ≡ row_at (part_of c) (get_or w pointer_word 0)
-  pub broken : row ≡ 0 → Packed c w → ⊥
+-- of words that are packed the row of the register at the pointer; none of any others
+pub record Judged (c : ℕ) (w : List ℕ) (row : Option ℕ) : Type 0 where
+  pub packed : (r : ℕ) → row ≡ Some r → Packed c w
+  pub row_is : (r : ℕ) → row ≡ Some r → r ≡ row_at (part_of c) (get_or w pointer_word 0)
+  pub broken : row ≡ None → Packed c w → ⊥
 
 -- what the image test asks of the words alone, the pointer's register apart
 pub record Bounded (c : ℕ) (w : List ℕ) : Type 0 where

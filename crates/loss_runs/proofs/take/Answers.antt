@@ -10,19 +10,19 @@ use Rattle.loss_sets.specs.Sets.{marks_in}
 use Rattle.loss_runs.proofs.Marking.{refused_event, taken_event}
 use Rattle.loss_runs.proofs.take.Goals as goal
 
-pub returns-then-is_refused : goal.returns-then-is_refused
-returns-then-is_refused c =
+pub returns-then-is_refusal : goal.returns-then-is_refusal
+returns-then-is_refusal c =
     let e = event_at c.args.events.now c.args.i in (
-      c.take-number.ensures,
-      λ p k fits. refused_event p c.args.words.now (marks_in c.args.marks.now) k e (c.take-number.ensures p k) (sym c.is_refused.ensures ∙ c.if-is_refused.true),
+      c.take-answer.ensures,
+      λ p k fits. refused_event p c.args.words.now (marks_in c.args.marks.now) k e (c.take-answer.ensures p k) (sym c.is_refusal.ensures ∙ c.if-is_refusal.true),
     )
 
 pub returns : goal.returns
 returns c =
     let w = c.args.words.now in
     let e = event_at c.args.events.now c.args.i in (
-      c.take-number.ensures,
-      λ p k. taken_event p w (marks_in c.args.marks.now) k e (c.take-number.ensures p k) (sym c.is_refused.ensures ∙ c.if-is_refused.false)
+      c.take-answer.ensures,
+      λ p k. taken_event p w (marks_in c.args.marks.now) k e (c.take-answer.ensures p k) (sym c.is_refusal.ensures ∙ c.if-is_refusal.false)
           (c.is_reset-resets.ensures (part_of p) (whole_of e) ∙ ap (λ (kind : ℕ). is_reset (state_in (part_of p) w) (event_of kind (whole_of e))) c.word_at-kind.ensures)
           c.note.ensures,
     )

@@ -2,7 +2,6 @@
 use mathlib.Core.Path.{sym, ◌∙◌}
 use Rattle.bits.proofs.Decide.{clash}
 use Rattle.words_state.proofs.Standing.{named}
-use Rattle.words_device.proofs.Naming.{its_tables}
 use Rattle.words_burst.proofs.Calling.{enough, bad, nothing, no_image, image}
 use Rattle.words_burst.proofs.burst.Goals as goal
 
@@ -21,8 +20,7 @@ pub run-requires : goal.run-requires
 run-requires c =
     let e = enough _ _ _ (sym c.is_bad.ensures ∙ c.if-is_bad.false) in
     let k = c.fits.ensures.0 c.if-not-fits.false in
-    let tables = its_tables _ _ k (record { rowed = c.put_rows.ensures; stepping = c.put_next.ensures; pins_are = c.pins_of-pins.ensures }) in
-    (named _ _ k, tables, e.0, e.1)
+    (named _ _ k, e.0, e.1)
 
 pub returns : goal.returns
 returns c =

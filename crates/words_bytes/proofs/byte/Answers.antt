@@ -5,7 +5,7 @@ use Rattle.map.specs.Map.{part_of}
 use Rattle.device_rules.specs.Device.{byte_in}
 use Rattle.device_rules.specs.declared.Answer.TheVariants.{Nak}
 use Rattle.device_rules.proofs.Stepping.{at_bus, no_byte}
-use Rattle.words_state.specs.Packed.{state_in, answer_at}
+use Rattle.words_state.specs.Packed.{state_in}
 use Rattle.words_state.proofs.Left.{left_same, went, in_bus_lem}
 use Rattle.words_bytes.proofs.byte.Goals as goal
 
@@ -45,5 +45,5 @@ pub returns-in_default : goal.returns-in_default
 returns-in_default c =
     let a = c.args in
     let rest = c.in_default.in_default-own.rest in
-    λ k packed z er. went k a.words.now packed Nak 7 (omega arith) (ap answer_at c.goes.ensures.0) c.goes.ensures.1
+    λ k packed z er. went k a.words.now packed Nak 7 (omega arith) c.goes.ensures.0 c.goes.ensures.1
     (no_byte (part_of k) (state_in (part_of k) a.words.now) a.value packed.bus_small rest.0.0.1 rest.0.0.0.0.0.1 z rest.0.0.0.0.1 rest.0.0.0.1 rest.0.1 rest.1)

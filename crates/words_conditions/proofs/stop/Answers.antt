@@ -5,7 +5,6 @@ use borrow.Author.Tests.{eq-eqb, ne_eqb}
 use lib.ListN.{get_or}
 use Rattle.device_rules.specs.Device.{step}
 use Rattle.device_rules.specs.declared.Answer.TheVariants.{Nothing}
-use Rattle.words_state.specs.Packed.{answer_at}
 use Rattle.words_state.proofs.Left.{went, by_rule}
 use Rattle.words_conditions.proofs.stop.Goals as goal
 
@@ -17,4 +16,4 @@ returns-then-words-eq-ARMED c =
 
 pub returns : goal.returns
 unfolding step
-returns c = λ k packed e. went k c.args.words.now packed Nothing 0 (omega arith) (ap answer_at c.goes.ensures.0) c.goes.ensures.1 (simp (ne_eqb _ _ c.if-words-eq-ARMED.false))
+returns c = λ k packed e. went k c.args.words.now packed Nothing 0 (omega arith) c.goes.ensures.0 c.goes.ensures.1 (simp (ne_eqb _ _ c.if-words-eq-ARMED.false))

@@ -57,7 +57,7 @@ returns-then-rule-eq-INPUT c =
     let hn : n < 128 = known_small (part_of k) n packed.pointer_known in
     let input = its_kind k n _ hn (c.rule.ensures k n hn e) Input c.if-rule-eq-INPUT.true in
     let becomes = c.settle.ensures k packed e in
-    rw (c.was_fetched.ensures.0, c.read-answer.ensures)
+    rw c.was_fetched.ensures.0
     (went_on k w _ packed becomes c.if-words-ne-SENDING.false _ ((c.show_inputs.ensures k n packed.pointer_known e).0 input) a.acknowledged
     (c.was_fetched.ensures.1 k (packed_becomes k w packed becomes) (rw (becomes.rest 21 (omega arith)) e)))
 
@@ -73,6 +73,6 @@ returns c =
     let hn : n < 128 = known_small (part_of k) n packed.pointer_known in
     let other : code (kind_at (part_of k) n) ≡ 1 → ⊥ = λ z. c.if-rule-eq-INPUT.false (low_rule k n _ hn (c.rule.ensures k n hn e) 1 (omega arith) z) in
     let becomes = unrung k w w (other_fetched (part_of k) (sound k) w packed.fit n hn other) (unrung_fetched (part_of k) (core_in (part_of k) w) (interrupt_in w) packed.right n (ne_eqb _ 1 other)) in
-    rw (c.was_fetched-2.ensures.0, c.read-answer-2.ensures)
+    rw c.was_fetched-2.ensures.0
     (went_on k w w packed becomes c.if-words-ne-SENDING.false _ (c.show.ensures k n packed.pointer_known e packed.fit) a.acknowledged
     (c.was_fetched-2.ensures.1 k packed e))

@@ -13,4 +13,4 @@ pub returns : goal.returns
 returns c =
     let a = c.args in
     λ k packed z.
-    rw c.read.ensures (left_same k a.words.now packed (Byte 255) (stray_fetch (part_of k) (state_in (part_of k) a.words.now) a.acknowledged z c.if-words-eq-TELLING.false))
+    left_same k a.words.now packed (Byte 255) (stray_fetch (part_of k) (state_in (part_of k) a.words.now) a.acknowledged z c.if-words-eq-TELLING.false)
