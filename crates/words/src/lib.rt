@@ -1,7 +1,7 @@
 // The state as words that a caller lends, for both parts: what each word is, and the pins' four as sets.
 #![tactic(auto)]
 
-ghost use Rattle.std.specs.Prelude.{◌≡◌, length};
+ghost use Rattle.std.specs.Prelude.{◌≡◌};
 ghost use Rattle.words.specs.Words.{sets_in, with_sets};
 
 use pins::Sets;
@@ -61,14 +61,6 @@ pub const ID: usize = 25;
 pub const PLACE: usize = 26;
 
 pub const PART: usize = 27;
-
-// That the words are 28 is no part of what a lent array says; a slice made of it says so. Costs nothing.
-pub fn counted(words: &[u64; 28]) -> usize
-    ensures { length words.now ≡ 28 }
-{
-    let all: &[u64] = words;
-    all.len()
-}
 
 // The pins' level, reference, held and edge.
 pub fn sets_in(words: &[u64; 28]) -> Sets

@@ -1,27 +1,16 @@
 // The register file out of words, and whether they stand for one.
 #![tactic(auto)]
 
-ghost use Rattle.std.specs.Prelude.{◌≡◌, true, length};
+ghost use Rattle.std.specs.Prelude.{◌≡◌, true};
 ghost use Rattle.map.specs.Map.{part_of};
 ghost use Rattle.words.specs.Words.{file_of};
-
-// A file has 128 entries.
-pub fn counted(file: &[u8; 128]) -> usize
-    ensures { length file.now ≡ 128 }
-{
-    let all: &[u8] = file;
-    all.len()
-}
 
 // The register file that the words stand for.
 pub fn to_file(words: &[u64; 28], part: u64, file: &mut [u8; 128])
     ensures { file.new ≡ file_of (part_of part) words.now }
 {
-    let _count = counted(&*file);
-    let mut n: u64 = 0;
-    while n < 128 {
+    for n in 0..128u64 {
         file[n as usize] = words_entries::entry(words, words_tables::row_of(part, n));
-        n += 1;
     }
 }
 
@@ -30,13 +19,10 @@ pub fn stand_for(words: &[u64; 28], part: u64, file: &[u8; 128]) -> bool
     ensures { (result ≡ true → file_of (part_of part) words.now ≡ file.now)
         × (file_of (part_of part) words.now ≡ file.now → result ≡ true) }
 {
-    let _count = counted(file);
-    let mut n: u64 = 0;
-    while n < 128 {
+    for n in 0..128u64 {
         if words_entries::entry(words, words_tables::row_of(part, n)) != file[n as usize] {
             return false;
         }
-        n += 1;
     }
     true
 }

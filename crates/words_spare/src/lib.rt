@@ -22,7 +22,6 @@ pub fn spare(words: &[u64; 28], pins: u64, kinds: u64, enables: u64, counts: u64
     ensures { (c : ℕ) → Limits c pins kinds enables counts
         → (result ≡ 0 → Fit (part_of c) words.now) × (Fit (part_of c) words.now → result ≡ 0) }
 {
-    let _count = words::counted(words);
     let any = union(words);
     let kind = words[PORT_KIND];
     let enable = words[DEBOUNCE_ENABLE];

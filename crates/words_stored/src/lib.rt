@@ -51,12 +51,8 @@ pub fn from_file(words: &mut [u64; 28], part: u64, file: &[u8; 128])
     ensures { Fit (part_of part) words.new
         × (file_fits (part_of part) file.now ≡ true → file_of (part_of part) words.new ≡ file.now) }
 {
-    let _count = words_files::counted(file);
     *words = [0; 28];
-    let mut n: u64 = 0;
-    while n < 128 {
-        let v = file[n as usize];
-        store(words, words_tables::row_of(part, n), v);
-        n += 1;
+    for n in 0..128u64 {
+        store(words, words_tables::row_of(part, n), file[n as usize]);
     }
 }

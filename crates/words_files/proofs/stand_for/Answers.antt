@@ -10,7 +10,7 @@ use Rattle.words_files.proofs.stand_for.Goals as goal
 pub loop-n-init : goal.loop-n-init
 loop-n-init c =
     let x = c.args in
-    laid_none (part_of x.part) (sound x.part) x.words.now x.file.now c.counted-count.ensures
+    laid_none (part_of x.part) (sound x.part) x.words.now x.file.now (c.told-file)
 
 pub entry-requires : goal.entry-requires
 entry-requires c =

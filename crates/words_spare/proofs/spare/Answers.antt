@@ -14,6 +14,6 @@ returns c =
     let own = ap (λ (any : ℕ). bit_or (bit_or (bit_or (without any a.pins) (without (get_or w 7 0) a.kinds)) (without (get_or w 17 0) a.enables)) (without (get_or w 18 0) a.counts))
     c.union-any.ensures in
     λ k lim. (
-      λ e. fit_of_spare k w a.pins a.kinds a.enables a.counts lim c.counted-count.ensures (sym own ∙ e),
+      λ e. fit_of_spare k w a.pins a.kinds a.enables a.counts lim c.told-words (sym own ∙ e),
       λ fit. own ∙ spare_of_fit k w a.pins a.kinds a.enables a.counts lim fit,
     )

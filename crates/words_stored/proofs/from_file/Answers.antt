@@ -30,5 +30,5 @@ pub returns : goal.returns
 returns c =
     let x = c.args in (
       c.loop-n.invariant.fit,
-      λ f. taken_all_lem (part_of x.part) (sound x.part) x.file.now c.loop-n.words c.loop-n.n c.loop-n.invariant c.loop-n-test.false c.counted-count.ensures f,
+      λ f. taken_all_lem (part_of x.part) (sound x.part) x.file.now c.loop-n.words c.loop-n.n c.loop-n.invariant c.loop-n-test.false (c.told-file) f,
     )
