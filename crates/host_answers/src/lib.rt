@@ -7,7 +7,7 @@ ghost use Rattle.planner_promise.specs.Promise.{refusal_of};
 ghost use Rattle.words_state.specs.Packed.{answer_at};
 ghost use Rattle.host_words.specs.Host.{told_as, writes_after};
 
-use planner_promise::Planned;
+use planner_promise::Refusal;
 
 // The kind of a byte read, and the last of an answer: what is above is a refusal's.
 const READ: u32 = 3;
@@ -40,14 +40,14 @@ pub fn one_if(t: bool) -> u8
 }
 
 // The planner's answer as numbers: the refusal's is given back, the number of writes stored.
-pub fn tell_plan(planned: Planned, writes: &mut [u64; 1]) -> u32
+pub fn tell_plan(planned: Result<usize, Refusal>, writes: &mut [u64; 1]) -> u32
     ensures { (result ≡ refusal_of planned) × (writes.new ≡ writes_after planned writes.old) }
 {
     match planned {
-        Planned::Writes(n) => {
+        Ok(n) => {
             *writes = [n as u64];
             0
         }
-        Planned::Refused(n) => n as u32,
+        Err(refusal) => refusal.number() as u32,
     }
 }
