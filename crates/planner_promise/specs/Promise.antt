@@ -17,7 +17,7 @@ abbrev pub refusal_of : {A : Type 0} → Result A Refusal → ℕ
 refusal_of (Ok a) = 0
 refusal_of (Err e) = number_of e
 
-abbrev pub count_of : Result ℕ Refusal → ℕ
+abbrev pub count_of : {E : Type 0} → Result ℕ E → ℕ
 count_of (Ok n) = n
 count_of (Err e) = 0
 
