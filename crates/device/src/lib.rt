@@ -9,6 +9,7 @@ ghost use Rattle.device.specs.Asked.{low_of, high_of, line_of, shown_of};
 
 use device_answers::{Driven, Line, Shown};
 use device_rules::{Answer, BAD_IMAGE, QUIET};
+use map::Chip;
 use pins::Sets;
 
 // The parts by their numbers: the one of 24 pins, and its sister of 34.
@@ -65,7 +66,7 @@ impl Device {
         ensures room { result ≡ 32 }
         ensures bound { result ≡ 2 * Device.WRITE_BOUND }
     {
-        device_rooms::plan_room()
+        device_rooms::plan_room(Chip::Pcal6524)
     }
 
     // And for every plan of the sister.
@@ -73,7 +74,7 @@ impl Device {
         ensures room { result ≡ 52 }
         ensures bound { result ≡ 2 * Device.WRITE_BOUND34 }
     {
-        device_rooms::plan_room34()
+        device_rooms::plan_room(Chip::Pcal6534)
     }
 
     // The register file of the part after any reset.

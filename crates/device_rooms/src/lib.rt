@@ -1,7 +1,10 @@
 // The room that a plan takes: the most writes that it may have, two bytes each.
 #![tactic(auto)]
 
-ghost use Rattle.std.specs.Prelude.{◌≡◌};
+ghost use Rattle.std.specs.Prelude.{◌≡◌, ◌+◌, ◌*◌};
+ghost use Rattle.map.specs.Chips.{part_at};
+
+use map::Chip;
 
 // the most writes that a plan may have
 pub const WRITE_BOUND: usize = 16;
@@ -9,16 +12,12 @@ pub const WRITE_BOUND: usize = 16;
 // and a plan of the sister
 pub const WRITE_BOUND34: usize = 26;
 
-// How many bytes a buffer has at least that has room for every plan.
-pub fn plan_room() -> usize
-    ensures { result ≡ 32 }
+// How many bytes a buffer has at least that has room for every plan of the part.
+pub fn plan_room(chip: Chip) -> usize
+    ensures { result ≡ 2 * (5 * (part_at chip).ports + 1) }
 {
-    2 * WRITE_BOUND
-}
-
-// And for every plan of the sister.
-pub fn plan_room34() -> usize
-    ensures { result ≡ 52 }
-{
-    WRITE_BOUND34 * 2
+    match chip {
+        Chip::Pcal6524 => 2 * WRITE_BOUND,
+        Chip::Pcal6534 => 2 * WRITE_BOUND34,
+    }
 }

@@ -6,7 +6,7 @@ ghost use Rattle.std.specs.Prelude.{◌≡◌, false, [], ◌∷◌, eqb, length
 ghost use Rattle.map.specs.Map.{part24, part34};
 ghost use Rattle.planner_promise.specs.Answer.{answer_of, Answers};
 ghost use Rattle.planner_promise.specs.Promise.{Promise};
-ghost use Rattle.host_words.specs.Host.{Told, Made, Seen, Shown, drives_of, int_of, image_in, FromImage, ToImage, planned_as, count_in};
+ghost use Rattle.host_words.specs.Host.{Told, Made, Seen, Shown, drives_of, int_of, image_in, FromImage, ToImage, count_in};
 ghost use Rattle.words_burst.specs.Burst.{Bursts};
 ghost use Rattle.loss_sets.specs.Sets.{MakesMarks};
 ghost use Rattle.loss_marks.specs.Lent.{Signs};
@@ -17,6 +17,7 @@ ghost use Rattle.compare_lines.specs.Comparing.{compared, part_from};
 
 use host_calls::{PCAL6524, PCAL6534};
 use host_words::DONE;
+use map::Chip;
 
 // The calls of the PCAL6524.
 pub fn ghixramel_power_on(words: &mut [u64; 28], choice: u32, levels: u64, number: u64) -> u32
@@ -130,12 +131,12 @@ pub fn ghixramel_sign_off(words: &[u64; 28], marks: &mut [u64; 2], pin: u32) -> 
 
 // The plan from the start to the goal, at the start of the buffer.
 pub fn ghixramel_plan(start: &[u8], goal: &[u8], buffer: &mut [u8], writes: &mut [u64; 1]) -> u32
-    ensures exact { Answers (planned_as result writes.new) buffer.old buffer.new
+    ensures exact { Answers result (count_in result writes.new) buffer.old buffer.new
         (answer_of part24 start.now goal.now (length buffer.old)) }
     ensures promise { Promise part24 start.now goal.now buffer.old buffer.new result (count_in result writes.new) }
     ensures refused { eqb result 0 ≡ false → writes.new ≡ writes.old }
 {
-    let planned = planner::plan(start, goal, buffer);
+    let planned = planner::plan(Chip::Pcal6524, start, goal, buffer);
     host_answers::tell_plan(planned, writes)
 }
 
@@ -268,11 +269,11 @@ pub fn ghixramel34_sign_off(words: &[u64; 28], marks: &mut [u64; 2], pin: u32) -
 
 // The plan from the start to the goal, at the start of the buffer.
 pub fn ghixramel34_plan(start: &[u8], goal: &[u8], buffer: &mut [u8], writes: &mut [u64; 1]) -> u32
-    ensures exact { Answers (planned_as result writes.new) buffer.old buffer.new
+    ensures exact { Answers result (count_in result writes.new) buffer.old buffer.new
         (answer_of part34 start.now goal.now (length buffer.old)) }
     ensures promise { Promise part34 start.now goal.now buffer.old buffer.new result (count_in result writes.new) }
     ensures refused { eqb result 0 ≡ false → writes.new ≡ writes.old }
 {
-    let planned = planner::plan34(start, goal, buffer);
+    let planned = planner::plan(Chip::Pcal6534, start, goal, buffer);
     host_answers::tell_plan(planned, writes)
 }

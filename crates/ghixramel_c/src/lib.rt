@@ -5,7 +5,7 @@ ghost use Rattle.std.specs.Prelude.{◌≡◌, false, [], ◌∷◌, eqb, length
 ghost use Rattle.map.specs.Map.{part24, part34};
 ghost use Rattle.planner_promise.specs.Answer.{answer_of, Answers};
 ghost use Rattle.planner_promise.specs.Promise.{Promise};
-ghost use Rattle.host_words.specs.Host.{Told, Made, Seen, Shown, drives_of, int_of, image_in, FromImage, ToImage, planned_as, count_in};
+ghost use Rattle.host_words.specs.Host.{Told, Made, Seen, Shown, drives_of, int_of, image_in, FromImage, ToImage, count_in};
 ghost use Rattle.words_burst.specs.Burst.{Bursts};
 ghost use Rattle.loss_sets.specs.Sets.{MakesMarks};
 ghost use Rattle.loss_marks.specs.Lent.{Signs};
@@ -154,7 +154,7 @@ pub extern "C" fn ghixramel_plan(
     buffer: &mut [u8],
     writes: &mut [u64; 1],
 ) -> u32
-    ensures exact { Answers (planned_as result writes.new) buffer.old buffer.new
+    ensures exact { Answers result (count_in result writes.new) buffer.old buffer.new
         (answer_of part24 start.now goal.now (length buffer.old)) }
     ensures promise { Promise part24 start.now goal.now buffer.old buffer.new result (count_in result writes.new) }
     ensures refused { eqb result 0 ≡ false → writes.new ≡ writes.old }
@@ -312,7 +312,7 @@ pub extern "C" fn ghixramel34_plan(
     buffer: &mut [u8],
     writes: &mut [u64; 1],
 ) -> u32
-    ensures exact { Answers (planned_as result writes.new) buffer.old buffer.new
+    ensures exact { Answers result (count_in result writes.new) buffer.old buffer.new
         (answer_of part34 start.now goal.now (length buffer.old)) }
     ensures promise { Promise part34 start.now goal.now buffer.old buffer.new result (count_in result writes.new) }
     ensures refused { eqb result 0 ≡ false → writes.new ≡ writes.old }

@@ -7,7 +7,7 @@ ghost use Rattle.planner_promise.specs.Promise.{refusal_of};
 ghost use Rattle.host_words.specs.Host.{told_as, writes_after};
 
 use device_rules::Answer;
-use planner_promise::Planned;
+use planner_promise::Refusal;
 
 // An answer told as its kind and its byte; a refusal as its number alone.
 pub fn tell(answer: Answer, told: &mut [u8; 2]) -> u32
@@ -31,14 +31,14 @@ pub fn one_if(t: bool) -> u8
 }
 
 // The planner's answer as numbers: the refusal's is given back, the number of writes stored.
-pub fn tell_plan(planned: Planned, writes: &mut [u64; 1]) -> u32
+pub fn tell_plan(planned: Result<usize, Refusal>, writes: &mut [u64; 1]) -> u32
     ensures { (result ≡ refusal_of planned) × (writes.new ≡ writes_after planned writes.old) }
 {
     match planned {
-        Planned::Writes(n) => {
+        Ok(n) => {
             *writes = [n as u64];
             0
         }
-        Planned::Refused(n) => n as u32,
+        Err(refusal) => refusal.number() as u32,
     }
 }

@@ -1,5 +1,5 @@
 -- What a call leaves is what the inner functions leave. Assumes nothing.
-use mathlib.Core.Path.{◌≡◌, refl, sym, ap, ap₂, subst, ◌∙◌}
+use mathlib.Core.Path.{◌≡◌, refl, sym, ap, ap₂, ◌∙◌}
 use mathlib.Core.Bool.{Bool, true, false, cond, ◌&&◌}
 use mathlib.Core.List.{List, [], ◌∷◌}
 use Prim.Native.Nat.{ℕ, ◌<◌}
@@ -15,17 +15,14 @@ use Rattle.device_rules.specs.declared.Answer.{Answer}
 use Rattle.device_rules.specs.declared.Answer.TheVariants.{Nothing, Ack, Nak, Byte, Refused}
 use Rattle.device_rules.specs.Refusals.{image_fits}
 use Rattle.device_rules.specs.PowerOn.{power_on, making_refused}
-use Rattle.planner_quiet.specs.Settings.{shape_of, Write}
-use Rattle.planner_quiet.specs.Order.{blocked}
-use Rattle.planner_quiet.specs.Route.{plan_of}
-use Rattle.planner_promise.specs.Formed.{formed, room_for}
 use Rattle.planner_promise.specs.Answer.{answer_of, Answers}
-use Rattle.planner_promise.specs.Answer.Answer.{refuse, give}
 use Rattle.planner_promise.specs.Promise.{refusal_of, count_of, Promise}
-use Rattle.planner_promise.specs.declared.Planned.{Planned}
+use Rattle.planner_promise.specs.declared.Refusal.{Refusal}
+use Rattle.planner_promise.specs.declared.Refusal.TheVariants.{NoQuietWay, BadSetting, BufferSmall}
+use Rattle.std.proofs.Common.{Result, Ok, Err}
 use Rattle.words.specs.Words.{file_of, sets_in, interrupt_in}
 use Rattle.words_state.specs.Packed.{state_in, Packed, Steps}
-use Rattle.host_words.specs.Host.{told_as, Told, Made, Seen, Shown, FromImage, ToImage, writes_after, planned_as, count_in}
+use Rattle.host_words.specs.Host.{told_as, Told, Made, Seen, Shown, FromImage, ToImage, writes_after, count_in}
 
 -- ---- one event
 -- a number that is not 0 is told of a refusal alone
@@ -118,45 +115,23 @@ module _ (c : ℕ) (w pins file rest : List ℕ) where
   to_none z = record { unpacked = λ k. absurd (z k); broken = λ z. (refl, refl, refl, refl) }
 
 -- ---- plans
--- no refusal of the planner has the number 0
-abbrev is_refusal : Planned → Bool
-is_refusal (Planned.Writes n) = false
-is_refusal (Planned.Refused n) = true
+-- the two numbers say how many writes there are
+counted : (p : Result ℕ Refusal) (writes : List ℕ) → count_in (refusal_of p) (writes_after p writes) ≡ count_of p
+counted (Ok n) writes = refl
+counted (Err NoQuietWay) writes = refl
+counted (Err BadSetting) writes = refl
+counted (Err BufferSmall) writes = refl
 
-not_zero : (fit small stuck : Bool) (ws : List Write) (n : ℕ) (before after : List ℕ)
-    → Answers (Planned.Refused n) before after (cond fit (cond small (refuse 6) (cond stuck (refuse 4) (give ws))) (refuse 5)) → eqb n 0 ≡ false
-not_zero false small stuck ws n before after q = ap (λ (p : Planned). eqb (refusal_of p) 0) q.0
-not_zero true true stuck ws n before after q = ap (λ (p : Planned). eqb (refusal_of p) 0) q.0
-not_zero true false true ws n before after q = ap (λ (p : Planned). eqb (refusal_of p) 0) q.0
-not_zero true false false ws n before after q = clash true refl (ap is_refusal q.0)
+kept_writes : (p : Result ℕ Refusal) (writes : List ℕ) → eqb (refusal_of p) 0 ≡ false → writes_after p writes ≡ writes
+kept_writes (Ok n) writes h = clash true refl h
+kept_writes (Err refusal) writes h = refl
 
-module _ (part : Part) (start goal before after : List ℕ) where
-  abbrev Said : Planned → Type 0
-  Said p = Answers p before after (answer_of part start goal (length before))
-
-  refusal_not_zero : (n : ℕ) → Said (Planned.Refused n) → eqb n 0 ≡ false
-  unfolding answer_of
-  refusal_not_zero n q =
-      not_zero (formed part start && formed part goal) (ltb (length before) (room_for part)) (blocked (shape_of part) start goal) (plan_of (shape_of part) start goal) n before after q
-
-  -- so the two numbers say which of the two it was
-  as_numbers : (p : Planned) → Said p → (writes : List ℕ) → planned_as (refusal_of p) (writes_after p writes) ≡ p
-  as_numbers (Planned.Writes n) q writes = refl
-  as_numbers (Planned.Refused n) q writes = simp (refusal_not_zero n q)
-
-kept_writes : (p : Planned) (writes : List ℕ) → eqb (refusal_of p) 0 ≡ false → writes_after p writes ≡ writes
-kept_writes (Planned.Writes n) writes h = clash true refl h
-kept_writes (Planned.Refused n) writes h = refl
-
-pub plan_told : (part : Part) {start goal before after : List ℕ} (p : Planned) → Promise part start goal before after (refusal_of p) (count_of p) → Said part start goal before after p
-    → {n : ℕ} {writes rest : List ℕ} → n ≡ refusal_of p → rest ≡ writes_after p writes
-    → Said part start goal before after (planned_as n rest) × (Promise part start goal before after n (count_in n rest) × (eqb n 0 ≡ false → rest ≡ writes))
+pub plan_told : (part : Part) {start goal before after : List ℕ} (p : Result ℕ Refusal) → Promise part start goal before after (refusal_of p) (count_of p)
+    → Answers (refusal_of p) (count_of p) before after (answer_of part start goal (length before)) → {n : ℕ} {writes rest : List ℕ} → n ≡ refusal_of p → rest ≡ writes_after p writes
+    → Answers n (count_in n rest) before after (answer_of part start goal (length before)) × Promise part start goal before after n (count_in n rest) × (eqb n 0 ≡ false → rest ≡ writes)
 plan_told part {start} {goal} {before} {after} p promise said {n} {writes} {rest} e q =
-    let same : planned_as n rest ≡ p = ap₂ planned_as e q ∙ as_numbers part start goal before after p said writes in (
-      subst (Said part start goal before after) (sym same) said,
-      (
-        subst (λ (m : ℕ). Promise part start goal before after m (count_in n rest)) (sym e)
-            (subst (Promise part start goal before after (refusal_of p)) (ap count_of (sym same)) promise),
-        λ h. q ∙ kept_writes p writes (ap (λ (n : ℕ). eqb n 0) (sym e) ∙ h),
-      ),
+    let count : count_in n rest ≡ count_of p = ap₂ count_in e q ∙ counted p writes in (
+      rw (count, e) said,
+      rw (count, e) promise,
+      λ h. q ∙ kept_writes p writes (ap (λ (n : ℕ). eqb n 0) (sym e) ∙ h),
     )

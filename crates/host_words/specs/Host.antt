@@ -1,5 +1,5 @@
 -- What a C host sees: the state as words, an image as its arrays, answers and refusals as numbers. Each call of part c, whatever is lent to it.
-use Rattle.std.specs.Prelude.{true, false, cond, List, [], ◌∷◌, ◌≡◌, ℕ, eqb, get_or}
+use Rattle.std.specs.Prelude.{true, false, cond, List, [], ◌∷◌, ◌≡◌, ℕ, eqb, get_or, Result, Ok, Err}
 use Rattle.map.specs.Map.{Part, part_of, reserved}
 use Rattle.registers.specs.Registers.{core, driven_low, driven_high, int_asserted}
 use Rattle.registers.specs.Interrupt.{interrupt}
@@ -8,8 +8,7 @@ use Rattle.device_rules.specs.Answers.{answer_kind, answer_byte, refusal_number}
 use Rattle.device_rules.specs.declared.Answer.{Answer}
 use Rattle.device_rules.specs.Refusals.{image_fits, stepped}
 use Rattle.device_rules.specs.PowerOn.{power_on, making_refused}
-use Rattle.planner_promise.specs.Promise.{count_of}
-use Rattle.planner_promise.specs.declared.Planned.{Planned}
+use Rattle.planner_promise.specs.declared.Refusal.{Refusal}
 use Rattle.words_state.specs.Packed.{state_in, Packed}
 
 -- the answer's kind and byte; a refusal leaves what was lent for them as it was
@@ -71,14 +70,10 @@ pub record ToImage (c : ℕ) (w : List ℕ) (number : ℕ) (pins file rest pins'
 
 -- ---- plans
 -- how many writes there are, stored beside the plan; a refusal leaves what was lent for it as it was
-abbrev pub writes_after : Planned → (before : List ℕ) → List ℕ
-writes_after (Planned.Writes n) before = n ∷ []
-writes_after (Planned.Refused n) before = before
+abbrev pub writes_after : Result ℕ Refusal → (before : List ℕ) → List ℕ
+writes_after (Ok n) before = n ∷ []
+writes_after (Err refusal) before = before
 
--- the planner's answer out of the two: the refusal's number and what was lent for the count
-abbrev pub planned_as : (number : ℕ) → (writes : List ℕ) → Planned
-planned_as number writes = cond (eqb number 0) (Planned.Writes (get_or writes 0 0)) (Planned.Refused number)
-
--- and its count, 0 where it was refused
+-- the planner's count out of the two: the refusal's number and what was lent for the count; 0 where it was refused
 abbrev pub count_in : (number : ℕ) → (writes : List ℕ) → ℕ
-count_in number writes = count_of (planned_as number writes)
+count_in number writes = cond (eqb number 0) (get_or writes 0 0) 0

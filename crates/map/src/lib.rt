@@ -3,6 +3,26 @@
 
 ghost use Rattle.std.specs.Prelude.{◌≡◌, ◌-◌, ◌^◌, false};
 ghost use Rattle.map.specs.Map.{part24, part34, part_of, reserved, onward};
+ghost use Rattle.map.specs.Chips.{part_at};
+
+// The parts: the one of 24 pins, and its sister of 34.
+#[derive(Clone, Copy, Debug, PartialEq, Eq)]
+pub enum Chip {
+    Pcal6524,
+    Pcal6534,
+}
+
+impl Chip {
+    // How many pins it has.
+    pub fn pins(self) -> u8
+        ensures { result ≡ (part_at self).width }
+    {
+        match self {
+            Chip::Pcal6524 => 24,
+            Chip::Pcal6534 => 34,
+        }
+    }
+}
 
 // The 24-pin part: every pin, the bits that exist in the output port kind, in debounce enable and in debounce count.
 pub const PINS24: u64 = 0xff_ffff;

@@ -1,48 +1,65 @@
 -- How a line of any length is taken byte by byte, in bounded memory; `Lines` has what it says.
-use Rattle.std.specs.Prelude.{◌≡◌, Bool, true, false, cond, not, ◌&&◌, List, [], ◌∷◌, ℕ, ◌+◌, ◌*◌, ◌%◌, eqb, ltb, length, set, replicate}
+use Rattle.std.specs.Prelude.{◌≡◌, Bool, true, false, cond, ◌&&◌, List, [], ◌∷◌, ◌++◌, ℕ, ◌+◌, ◌*◌, ◌%◌, eqb, ltb, length, Option, Some, None, is_none}
 use Rattle.text.specs.Text.{digit_of}
-use Rattle.map.specs.Map.{Part}
-use Rattle.planner_quiet.specs.Settings.{registers_of}
 use Rattle.plan_fields.specs.declared.Field.{Field}
+use Rattle.plan_fields.specs.declared.Place.{Place}
+use Rattle.plan_fields.specs.declared.Place.TheVariants.{Start, Goal, Nowhere}
 use Rattle.plan_fields.specs.declared.Reading.{Reading}
 
-abbrev pub field : List ℕ → (count high : ℕ) → Field
-field bytes count high = record { bytes = bytes; count = count; high = high }
+abbrev pub field : List ℕ → (high : Option ℕ) → Field
+field bytes high = record { bytes = record { items = bytes }; high = high }
 
--- A pair of digits is whole: the first sixteen bytes are kept, and from there on they are only counted, as 17.
+-- A pair of digits is whole: the first seventeen bytes are kept, one more than the longest setting has.
 unfoldable pub byte_taken : Field → (v : ℕ) → Field
-byte_taken f v = cond (ltb f.count 16) (field (set f.bytes f.count v) (f.count + 1) 16) (field f.bytes 17 16)
+byte_taken f v = field (cond (ltb (length f.bytes.items) 17) (f.bytes.items ++ v ∷ []) f.bytes.items) None
 
--- A digit: the first of a pair waits, 16 says that none waits.
+-- A digit: the first of a pair waits, the second makes it whole.
+abbrev pub digit_behind : Option ℕ → Field → (d : ℕ) → Field
+digit_behind None f d = field f.bytes.items (Some d)
+digit_behind (Some high) f d = byte_taken f (high % 16 * 16 + d)
+
 unfoldable pub digit_taken : Field → (d : ℕ) → Field
-digit_taken f d = cond (eqb f.high 16) (field f.bytes f.count d) (byte_taken f (f.high % 16 * 16 + d))
+digit_taken f d = digit_behind f.high f d
 
-abbrev pub reading : (start goal : Field) → (tabs : ℕ) → (bad : Bool) → Reading
-reading start goal tabs bad = record { start = start; goal = goal; tabs = tabs; bad = bad }
+abbrev pub reading : (start goal : Field) → Place → Reading
+reading start goal place = record { start = start; goal = goal; place = place }
 
 -- Before the first byte of a line.
 abbrev pub nothing : Field
-nothing = field (replicate 16 0) 0 16
+nothing = field [] None
 
 abbrev pub begun : Reading
-begun = reading nothing nothing 0 false
+begun = reading nothing nothing Start
+
+-- The first tab ends the start; another spoils the line.
+abbrev pub past_tab : Place → Place
+past_tab Start = Goal
+past_tab Goal = Nowhere
+past_tab Nowhere = Nowhere
 
 -- A digit goes to its field.
+abbrev pub with_digit_at : Place → Reading → (d : ℕ) → Reading
+with_digit_at Start r d = reading (digit_taken r.start d) r.goal r.place
+with_digit_at Goal r d = reading r.start (digit_taken r.goal d) r.place
+with_digit_at Nowhere r d = r
+
 unfoldable pub with_digit : Reading → (d : ℕ) → Reading
-with_digit r d =
-    cond (eqb r.tabs 0) (reading (digit_taken r.start d) r.goal r.tabs r.bad) (reading r.start (digit_taken r.goal d) r.tabs r.bad)
+with_digit r d = with_digit_at r.place r d
 
 -- A byte of the line: a tab ends the first field, a digit goes to its field, and any other byte spoils the line.
 unfoldable pub taken : Reading → (b : ℕ) → Reading
 taken r b =
-    cond (eqb b 0x09) (reading r.start r.goal (cond (ltb r.tabs 2) (r.tabs + 1) 2) r.bad)
-    (cond (ltb (digit_of b) 16) (with_digit r (digit_of b)) (reading r.start r.goal r.tabs true))
+    cond (eqb b 0x09) (reading r.start r.goal (past_tab r.place))
+    (cond (ltb (digit_of b) 16) (with_digit r (digit_of b)) (reading r.start r.goal Nowhere))
 
--- What the line is refused for before the planner is asked: 7 if it is not two fields of whole pairs, 5 if one is not a byte for each register of the part's setting; 0 is nothing.
-unfoldable pub line_refusal : Part → Reading → ℕ
-line_refusal p r =
-    cond (((not r.bad && eqb r.tabs 1) && eqb r.start.high 16) && eqb r.goal.high 16)
-    (cond (eqb r.start.count (length (registers_of p)) && eqb r.goal.count (length (registers_of p))) 0 5) 7
+-- The line is two fields of whole pairs.
+abbrev pub at_goal : Place → Bool
+at_goal Start = false
+at_goal Goal = true
+at_goal Nowhere = false
+
+abbrev pub whole_in : Reading → Bool
+whole_in r = (at_goal r.place && is_none r.start.high) && is_none r.goal.high
 
 -- All bytes of a part.
 unfoldable pub taken_all : Reading → (part : List ℕ) → Reading

@@ -2,126 +2,135 @@
 #![tactic(auto)]
 
 ghost use Rattle.std.specs.Prelude.{◌≡◌, List, [], ◌++◌, ℕ, ◌<◌};
-ghost use Rattle.plan_fields.specs.Asks.{byte_taken, digit_taken, with_digit, taken, Holds, Said};
+ghost use Rattle.plan_fields.specs.Asks.{nothing, byte_taken, digit_taken, past_tab, with_digit, taken, whole_in, Holds, Said};
 
-// One field of the line: its first sixteen bytes, how many there are (17 for more), the digit that waits (16 for none).
-#[derive(Clone, Copy)]
+use arrayvec::ArrayVec;
+
+// How many bytes of a field are kept: one more than the longest setting has, so that a field that is longer is seen to be.
+pub const KEPT: usize = 17;
+
+// One field of the line: its first bytes, and the digit that waits for the second of its pair.
+#[derive(Drop)]
 pub struct Field {
-    pub bytes: [u8; 16],
-    pub count: u8,
-    pub high: u8,
+    pub bytes: ArrayVec<u8, KEPT>,
+    pub high: Option<u8>,
 }
 
-#[derive(Clone, Copy)]
+impl Field {
+    fn empty() -> Field
+        ensures { result ≡ nothing }
+    {
+        Field {
+            bytes: ArrayVec::new(),
+            high: None,
+        }
+    }
+
+    // A pair of digits is whole.
+    #[tactic(auto, unfolding(crate::specs::Asks::byte_taken))]
+    fn take_byte(&mut self, v: u8)
+        ensures { self.new ≡ byte_taken self.old v }
+    {
+        self.high = None;
+        if !self.bytes.is_full() {
+            self.bytes.push(v);
+        }
+    }
+
+    #[tactic(auto, unfolding(crate::specs::Asks::digit_taken))]
+    fn take_digit(&mut self, d: u8)
+        requires { d < 16 }
+        ensures { self.new ≡ digit_taken self.old d }
+    {
+        match self.high {
+            None => self.high = Some(d),
+            Some(high) => self.take_byte(high % 16 * 16 + d),
+        }
+    }
+}
+
+// Where the next digit goes: nowhere, once the line is spoiled.
+#[derive(Clone, Copy, Debug, PartialEq, Eq)]
+pub enum Place {
+    Start,
+    Goal,
+    Nowhere,
+}
+
+impl Place {
+    fn after_tab(self) -> Place
+        ensures { result ≡ past_tab self }
+    {
+        match self {
+            Place::Start => Place::Goal,
+            _ => Place::Nowhere,
+        }
+    }
+}
+
+#[derive(Drop)]
 pub struct Reading {
     pub start: Field,
     pub goal: Field,
-    pub tabs: u8,
-    pub bad: bool,
+    pub place: Place,
 }
 
-// A pair of digits is whole.
-fn byte_taken(mut f: Field, v: u8) -> Field
-    ensures { result ≡ byte_taken f v }
-{
-    let count = f.count;
-    f.high = 16;
-    if count < 16 {
-        let at = count as usize;
-        f.bytes[at] = v;
-        f.count = count + 1;
-        return f;
-    }
-    f.count = 17;
-    f
-}
-
-fn digit_taken(mut f: Field, d: u8) -> Field
-    requires { d < 16 }
-    ensures { result ≡ digit_taken f d }
-{
-    let high = f.high;
-    if high == 16 {
-        f.high = d;
-        return f;
-    }
-    byte_taken(f, high % 16 * 16 + d)
-}
-
-// Before the first byte of a line.
-pub fn begin() -> Reading
-    ensures { Holds result [] × Said result }
-{
-    let none = [0u8; 16];
-    let empty = Field {
-        bytes: none,
-        count: 0,
-        high: 16,
-    };
-    Reading {
-        start: empty,
-        goal: empty,
-        tabs: 0,
-        bad: false,
-    }
-}
-
-// A digit goes to its field.
-fn with_digit(r: Reading, d: u8) -> Reading
-    requires { d < 16 }
-    ensures { result ≡ with_digit r d }
-{
-    let tabs = r.tabs;
-    let bad = r.bad;
-    let start = r.start;
-    let goal = r.goal;
-    if tabs == 0 {
-        return Reading {
-            start: digit_taken(start, d),
-            goal,
-            tabs,
-            bad,
-        };
-    }
-    Reading {
-        start,
-        goal: digit_taken(goal, d),
-        tabs,
-        bad,
-    }
-}
-
-// A byte of the line.
-fn take(mut r: Reading, b: u8) -> Reading
-    ensures { result ≡ taken r b }
-{
-    let tabs = r.tabs;
-    if b == 0x09 {
-        if tabs < 2 {
-            r.tabs = tabs + 1;
-            return r;
+impl Reading {
+    // Before the first byte of a line.
+    #[tactic(auto, unfolding(crate::specs::Asks::taken_all))]
+    pub fn begin() -> Reading
+        ensures { Holds result [] × Said result }
+    {
+        Reading {
+            start: Field::empty(),
+            goal: Field::empty(),
+            place: Place::Start,
         }
-        r.tabs = 2;
-        return r;
     }
-    let d = text::digit(b);
-    if d < 16 {
-        return with_digit(r, (d % 256) as u8);
-    }
-    r.bad = true;
-    r
-}
 
-// The reading with these bytes more.
-pub fn grow(r: Reading, part: &[u8]) -> Reading
-    requires { Said r }
-    ensures { ((text : List ℕ) → Holds r text → Holds result (text ++ part.now)) × Said result }
-{
-    let mut reading = r;
-    let mut i = 0;
-    while i < part.len() {
-        reading = take(reading, part[i]);
-        i += 1;
+    // A digit goes to its field.
+    #[tactic(auto, unfolding(crate::specs::Asks::with_digit))]
+    fn take_digit(&mut self, d: u8)
+        requires { d < 16 }
+        ensures { self.new ≡ with_digit self.old d }
+    {
+        match self.place {
+            Place::Start => self.start.take_digit(d),
+            Place::Goal => self.goal.take_digit(d),
+            Place::Nowhere => {}
+        }
     }
-    reading
+
+    // A byte of the line.
+    #[tactic(auto, unfolding(crate::specs::Asks::taken))]
+    fn take(&mut self, b: u8)
+        ensures { self.new ≡ taken self.old b }
+    {
+        let d = text::digit(b);
+        if b == b'\t' {
+            self.place = self.place.after_tab();
+        } else if d < 16 {
+            self.take_digit(d as u8);
+        } else {
+            self.place = Place::Nowhere;
+        }
+    }
+
+    // The line has these bytes more.
+    #[tactic(auto, unfolding(crate::specs::Asks::taken_all))]
+    pub fn grow(&mut self, part: &[u8])
+        requires { Said self.old }
+        ensures { ((text : List ℕ) → Holds self.old text → Holds self.new (text ++ part.now)) × Said self.new }
+    {
+        for b in part {
+            self.take(*b);
+        }
+    }
+
+    // Whether the line is two fields of whole pairs.
+    pub fn is_whole(&self) -> bool
+        ensures { result ≡ whole_in self.now }
+    {
+        self.place == Place::Goal && self.start.high.is_none() && self.goal.high.is_none()
+    }
 }

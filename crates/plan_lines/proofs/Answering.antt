@@ -1,26 +1,33 @@
 -- The answer to a line, from what was heard of it and what the planner answered. Assumes nothing.
-use mathlib.Core.Path.{◌≡◌, refl, ap, sym, ◌∙◌}
-use mathlib.Core.Bool.{Bool, true, false, and-false}
+use mathlib.Core.Path.{◌≡◌, refl, ap, ap₂, sym, ◌∙◌}
+use mathlib.Core.Bool.{Bool, true, false, ◌&&◌, and-false}
 use mathlib.Core.List.{List, [], ◌∷◌}
+use mathlib.Core.Logic.{inl, inr, ◌⊎◌}
 use Prim.Native.Nat.{ℕ, ◌*◌, ◌≤◌}
 use native.Mathlib.Omega.{arith}
-use borrow.Author.Tests.{eqb-true}
-use lib.Dec.{eqb}
-use lib.ListN.{length, take, drop, length-append}
-use lib.Seq.{take_at}
+use borrow.Author.Tests.{ne_eqb, ltb-true, ltb-false}
+use lib.Dec.{ltb}
+use lib.ListN.{length, take, drop, length-append, length-take}
+use lib.Seq.{take_at, take_all}
+use Rattle.std.proofs.Common.{Result, Ok, Err}
+use Rattle.bits.proofs.Decide.{either_arm}
 use Rattle.text.specs.Text.{Wrote}
 use Rattle.text.proofs.Laws.{wrote_as}
 use Rattle.text_answers.specs.Answers.{refused_line}
 use Rattle.map.specs.Map.{Part}
-use Rattle.planner_quiet.specs.Settings.{registers_of, Write}
-use Rattle.planner_promise.specs.Formed.{formed, room_for}
-use Rattle.planner_promise.specs.Promise.{bytes_of, refusal_of, count_of}
+use Rattle.planner_quiet.specs.Settings.{registers_of, shape_of, Write}
+use Rattle.planner_quiet.specs.Order.{blocked}
+use Rattle.planner_promise.specs.Formed.{fit_from, formed, room_for}
+use Rattle.planner_promise.specs.Promise.{bytes_of, count_of}
 use Rattle.planner_promise.specs.Answer.{Answer, refuse, give, answer_of, Answers}
-use Rattle.planner_promise.specs.declared.Planned.{Planned}
+use Rattle.planner_promise.specs.declared.Refusal.TheVariants.{NoQuietWay, BadSetting, BufferSmall}
 use Rattle.plan_fields.specs.declared.Reading.{Reading}
-use Rattle.plan_fields.specs.Asks.{begun, taken_all, line_refusal, Holds}
+use Rattle.plan_fields.specs.Asks.{whole_in, Holds}
 use Rattle.plan_fields.specs.Lines.{readable, start_in, goal_in}
-use Rattle.plan_fields.proofs.Heard.{refused_seven, refused_five, start_heard, goal_heard}
+use Rattle.plan_fields.proofs.Heard.{whole_heard, start_heard, goal_heard}
+use Rattle.plan_refusals.specs.declared.LineRefusal.{LineRefusal}
+use Rattle.plan_refusals.specs.declared.LineRefusal.TheVariants.{Unreadable, Planner}
+use Rattle.plan_refusals.specs.Refusals.{line_number, refused_as}
 use Rattle.plan_lines.specs.Told.{answer_to, writes_text, plan_line, answer_text, plan_text, refusal_in, pairs_text, planned_text, Tells}
 
 -- ---- what the planner answered, as text
@@ -33,89 +40,98 @@ unfolding pairs_text writes_text
 pairs_text_lem [] = refl
 pairs_text_lem (w ∷ ws) = rw (pairs_text_lem ws)
 
-module _ (r : Planned) (before after : List ℕ) where
-  pub few_writes : (a : Answer) → Answers r before after a → length after ≡ 52 → count_of r ≤ 26
-  few_writes (refuse c) (e, f) all = omega (arith, ap count_of e)
-  few_writes (give ws) (e, f) all =
-      omega (arith, all, ap count_of e, ap length f, length-append (bytes_of ws) (drop (2 * length ws) before), bytes_length ws)
+-- no refusal has the number 0
+some_line : (d : LineRefusal) → line_number d ≡ 0 → ⊥
+some_line Unreadable z = omega (arith, z)
+some_line (Planner NoQuietWay) z = omega (arith, z)
+some_line (Planner BadSetting) z = omega (arith, z)
+some_line (Planner BufferSmall) z = omega (arith, z)
 
-  answer_text_lem : (a : Answer) → Answers r before after a → planned_text r after ≡ answer_text a
-  answer_text_lem (refuse c) (e, f) = ap (λ (p : Planned). planned_text p after) e
-  answer_text_lem (give ws) (e, f) =
-      ap (λ (p : Planned). planned_text p after) e
-      ∙ ap plan_line
-      (ap (λ (s : List ℕ). pairs_text (take (2 * length ws) s)) f
+abbrev Numbered : Answer → Type 0
+Numbered (refuse c) = c ≡ 0 → ⊥
+Numbered (give ws) = Unit {0}
+
+pub numbered : (p : Part) (line : List ℕ) → Numbered (answer_to p line)
+unfolding answer_to answer_of
+numbered p line =
+    let s = start_in line in
+    let g = goal_in line in
+    either_arm Numbered (readable line)
+    (either_arm Numbered (formed p s && formed p g)
+    (either_arm Numbered (ltb (room_for p) (room_for p)) (λ z. omega (arith, z)) (either_arm Numbered (blocked (shape_of p) s g) (λ z. omega (arith, z)) tt)) (λ z. omega (arith, z)))
+    (λ z. omega (arith, z))
+
+module _ (before after : List ℕ) where
+  pub few_writes : (r : Result ℕ LineRefusal) (a : Answer) → Answers (refused_as r) (count_of r) before after a → length after ≡ 52 → count_of r ≤ 26
+  few_writes r (refuse c) (e, f, g) all = omega (arith, f)
+  few_writes r (give ws) (e, f, g) all =
+      omega (arith, all, f, ap length g, length-append (bytes_of ws) (drop (2 * length ws) before), bytes_length ws)
+
+  answer_text_lem : (r : Result ℕ LineRefusal) (a : Answer) → Numbered a → Answers (refused_as r) (count_of r) before after a → planned_text r after ≡ answer_text a
+  answer_text_lem (Ok n) (refuse c) s (e, f, g) = absurd (s (sym e))
+  answer_text_lem (Ok n) (give ws) s (e, f, g) =
+      ap plan_line
+      (ap (λ (k : ℕ). pairs_text (take (2 * k) after)) f
+      ∙ ap (λ (l : List ℕ). pairs_text (take (2 * length ws) l)) g
       ∙ ap pairs_text (take_at (bytes_of ws) (drop (2 * length ws) before) (2 * length ws) (bytes_length ws)) ∙ pairs_text_lem ws)
+  answer_text_lem (Err d) (refuse c) s (e, f, g) = ap refused_line e
+  answer_text_lem (Err d) (give ws) s (e, f, g) = absurd (some_line d e)
 
-  answer_number : (a : Answer) → Answers r before after a → refusal_of r ≡ refusal_in a
-  answer_number (refuse c) (e, f) = ap refusal_of e
-  answer_number (give ws) (e, f) = ap refusal_of e
+  answer_number : (r : Result ℕ LineRefusal) (a : Answer) → Answers (refused_as r) (count_of r) before after a → refused_as r ≡ refusal_in a
+  answer_number r (refuse c) (e, f, g) = e
+  answer_number r (give ws) (e, f, g) = e
 
--- ---- settings that are not of that many bytes
+-- ---- settings that are not formed
 module _ (p : Part) (start goal : List ℕ) (n : ℕ) where
-  pub five_start : eqb (length start) (length (registers_of p)) ≡ false → answer_of p start goal n ≡ refuse 5
+  pub five_start : formed p start ≡ false → answer_of p start goal n ≡ refuse 5
   unfolding answer_of
   five_start h = rw h
 
-  pub five_goal : eqb (length goal) (length (registers_of p)) ≡ false → answer_of p start goal n ≡ refuse 5
+  pub five_goal : formed p goal ≡ false → answer_of p start goal n ≡ refuse 5
   unfolding answer_of
   five_goal h = rw (h, and-false (formed p start))
 
--- ---- the line
-module _ (p : Part) (few : length (registers_of p) ≤ 16) (line : List ℕ) (r : Reading) (held : Holds r line) (n : ℕ) (heard : n ≡ line_refusal p r) where
-  abbrev m : ℕ
-  m = length (registers_of p)
+pub not_formed : (p : Part) (s : List ℕ) → (length s ≡ length (registers_of p) → ⊥) → formed p s ≡ false
+not_formed p s h = ap (λ (b : Bool). b && fit_from p s 0 (length (registers_of p))) (ne_eqb (length s) (length (registers_of p)) h)
 
-  number_is : {k : ℕ} → line_refusal p (taken_all begun line) ≡ k → n ≡ k
-  number_is e = heard ∙ ap (line_refusal p) held ∙ e
-
-  line_refused : (n ≡ 0 → ⊥) → answer_to p line ≡ refuse n
-  unfolding answer_to
-  line_refused h = go (readable line) refl
+-- ---- what is past the seventeenth byte of a field changes no answer
+module _ (p : Part) (few : length (registers_of p) ≤ 16) where
+  cut : (s : List ℕ) → (take 17 s ≡ s) ⊎ ((formed p (take 17 s) ≡ false) × (formed p s ≡ false))
+  cut s = go (ltb 17 (length s)) refl
     where
-      five : readable line ≡ true → (s g : Bool) → eqb (length (start_in line)) m ≡ s → eqb (length (goal_in line)) m ≡ g → answer_to p line ≡ refuse n
-      five t false g e f =
-          let k : n ≡ 5 = number_is (refused_five p few line t ∙ rw e) in
-          rw t (five_start p (start_in line) (goal_in line) (room_for p) e ∙ ap refuse (sym k))
-      five t true false e f =
-          let k : n ≡ 5 = number_is (refused_five p few line t ∙ rw (e, f)) in
-          rw t (five_goal p (start_in line) (goal_in line) (room_for p) f ∙ ap refuse (sym k))
-      five t true true e f = absurd (h (number_is (refused_five p few line t ∙ rw (e, f))))
+      go : (t : Bool) → ltb 17 (length s) ≡ t → (take 17 s ≡ s) ⊎ ((formed p (take 17 s) ≡ false) × (formed p s ≡ false))
+      go true t =
+          let long = ltb-true 17 (length s) t in
+          inr (not_formed p (take 17 s) (λ e. omega (arith, e, long, few, length-take 17 s)), not_formed p s (λ e. omega (arith, e, long, few)))
+      go false t = inl (take_all 17 s (ltb-false 17 (length s) t))
 
-      go : (t : Bool) → readable line ≡ t → answer_to p line ≡ refuse n
-      go true t = five t (eqb (length (start_in line)) m) (eqb (length (goal_in line)) m) refl refl
-      go false t = let k : n ≡ 7 = number_is (refused_seven p few line t) in rw t (ap refuse (sym k))
-
-  line_asked_lem : n ≡ 0 → answer_to p line ≡ answer_of p (take m r.start.bytes) (take m r.goal.bytes) (room_for p)
-  unfolding answer_to
-  line_asked_lem z = go (readable line) refl
+  answer_cut : (s g : List ℕ) (n : ℕ) → answer_of p (take 17 s) (take 17 g) n ≡ answer_of p s g n
+  answer_cut s g n = go (cut s) (cut g)
     where
-      ten : readable line ≡ true → (s g : Bool) → eqb (length (start_in line)) m ≡ s → eqb (length (goal_in line)) m ≡ g
-          → answer_to p line ≡ answer_of p (take m r.start.bytes) (take m r.goal.bytes) (room_for p)
-      ten t false g e f = let k : n ≡ 5 = number_is (refused_five p few line t ∙ rw e) in absurd (omega (arith, z, k))
-      ten t true false e f = let k : n ≡ 5 = number_is (refused_five p few line t ∙ rw (e, f)) in absurd (omega (arith, z, k))
-      ten t true true e f =
-          let a = start_heard p few line t (eqb-true (length (start_in line)) m e) in
-          let b = goal_heard p few line t (eqb-true (length (goal_in line)) m f) in
-          rw (t, held, a, b)
+      go : (take 17 s ≡ s) ⊎ ((formed p (take 17 s) ≡ false) × (formed p s ≡ false)) → (take 17 g ≡ g) ⊎ ((formed p (take 17 g) ≡ false) × (formed p g ≡ false))
+          → answer_of p (take 17 s) (take 17 g) n ≡ answer_of p s g n
+      go (inl e) (inl f) = ap₂ (λ (x y : List ℕ). answer_of p x y n) e f
+      go (inr e) f = five_start p (take 17 s) (take 17 g) n e.0 ∙ sym (five_start p s g n e.1)
+      go (inl e) (inr f) = five_goal p (take 17 s) (take 17 g) n f.0 ∙ sym (five_goal p s g n f.1)
 
-      go : (t : Bool) → readable line ≡ t → answer_to p line ≡ answer_of p (take m r.start.bytes) (take m r.goal.bytes) (room_for p)
-      go true t = ten t (eqb (length (start_in line)) m) (eqb (length (goal_in line)) m) refl refl
-      go false t = let k : n ≡ 7 = number_is (refused_seven p few line t) in absurd (omega (arith, z, k))
+  -- ---- the line
+  module _ (line : List ℕ) (r : Reading) (held : Holds r line) where
+    pub line_unread : whole_in r ≡ false → answer_to p line ≡ refuse 7
+    unfolding answer_to
+    line_unread h = let t : readable line ≡ false = sym (whole_heard line r held) ∙ h in rw t
 
-  module _ {out left : List ℕ} {at end : ℕ} where
-    pub refused_tells : (n ≡ 0 → ⊥) → Wrote out at (refused_line n) end left → Tells p line out at end n left
-    unfolding plan_text
-    refused_tells h w = let e = line_refused h in record { wrote = wrote_as (ap answer_text (sym e)) w; told = ap refusal_in (sym e) }
+    pub line_asked : whole_in r ≡ true → answer_of p r.start.bytes.items r.goal.bytes.items (room_for p) ≡ answer_to p line
+    unfolding answer_to
+    line_asked h =
+        let t : readable line ≡ true = sym (whole_heard line r held) ∙ h in
+        ap₂ (λ (x y : List ℕ). answer_of p x y (room_for p)) (start_heard line r held t) (goal_heard line r held t)
+        ∙ answer_cut (start_in line) (goal_in line) (room_for p) ∙ rw t
 
-    pub planned_tells : n ≡ 0 → (q : Planned) (before after : List ℕ) (room : ℕ) → answer_of p (take m r.start.bytes) (take m r.goal.bytes) room ≡ answer_of p (take m r.start.bytes) (take m r.goal.bytes) (room_for p)
-        → Answers q before after (answer_of p (take m r.start.bytes) (take m r.goal.bytes) room)
-        → Wrote out at (planned_text q after) end left → {k : ℕ} → k ≡ refusal_of q → Tells p line out at end k left
-    unfolding plan_text
-    planned_tells z q before after room all answers w e =
-        let a : Answer = answer_of p (take m r.start.bytes) (take m r.goal.bytes) room in
-        let same : a ≡ answer_to p line = all ∙ sym (line_asked_lem z) in
-        record {
-          wrote = wrote_as (answer_text_lem q before after a answers ∙ ap answer_text same) w;
-          told = e ∙ answer_number q before after a answers ∙ ap refusal_in same;
-        }
+-- and its answer told
+pub tells : (p : Part) (line : List ℕ) (q : Result ℕ LineRefusal) (before after : List ℕ) {out left : List ℕ} {at end : ℕ} → Answers (refused_as q) (count_of q) before after (answer_to p line)
+    → Wrote out at (planned_text q after) end left → Tells p line out at end (refused_as q) left
+unfolding plan_text
+tells p line q before after answers w = record {
+  wrote = wrote_as (answer_text_lem before after q (answer_to p line) (numbered p line) answers) w;
+  told = answer_number before after q (answer_to p line) answers;
+}

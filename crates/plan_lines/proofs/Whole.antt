@@ -4,7 +4,6 @@ use mathlib.Core.Bool.{true, false}
 use mathlib.Core.List.{List, [], ◌∷◌, ◌++◌}
 use Prim.Native.Nat.{ℕ, suc, ◌+◌, ◌*◌, ◌/◌, ◌%◌, ◌<◌}
 use native.Mathlib.Omega.{arith}
-use borrow.Author.Tests.{ne_eqb}
 use lib.Dec.{eqb}
 use lib.ListN.{length, get_or}
 use Rattle.bits.proofs.Decide.{each, each_bool}
@@ -16,7 +15,7 @@ use Rattle.planner_promise.specs.Formed.{room_for}
 use Rattle.planner_promise.specs.Answer.{answer_of}
 use Rattle.plan_fields.specs.Lines.{has_tab, before_tab, after_tab, is_digit, in_pairs, bytes_in, spelled, readable, start_in, goal_in}
 use Rattle.plan_lines.specs.Told.{answer_to, answer_text, plan_text}
-use Rattle.plan_lines.proofs.Answering.{five_start, five_goal}
+use Rattle.plan_lines.proofs.Answering.{five_start, five_goal, not_formed}
 
 -- a digit's byte, tried at each
 digit_read : (d : ℕ) → d < 16 → digit_of (digit_byte d) ≡ d
@@ -79,7 +78,7 @@ module _ (p : Part) (start goal : List ℕ) (of_start : Bytes start) (of_goal : 
 
   -- which is refusal 5 where a start or a goal is not a byte for each register
   pub start_not_whole : (length start ≡ length (registers_of p) → ⊥) → plan_text p line ≡ refused_line 5
-  start_not_whole h = line_text ∙ ap answer_text (five_start p start goal (room_for p) (ne_eqb (length start) (length (registers_of p)) h))
+  start_not_whole h = line_text ∙ ap answer_text (five_start p start goal (room_for p) (not_formed p start h))
 
   pub goal_not_whole : (length goal ≡ length (registers_of p) → ⊥) → plan_text p line ≡ refused_line 5
-  goal_not_whole h = line_text ∙ ap answer_text (five_goal p start goal (room_for p) (ne_eqb (length goal) (length (registers_of p)) h))
+  goal_not_whole h = line_text ∙ ap answer_text (five_goal p start goal (room_for p) (not_formed p goal h))

@@ -1,5 +1,5 @@
 -- The text of writes. Assumes nothing.
-use mathlib.Core.Path.{◌≡◌, refl, ap, sym, ◌∙◌}
+use mathlib.Core.Path.{◌≡◌, refl, ◌∙◌}
 use mathlib.Core.List.{List, [], ◌∷◌, ◌++◌}
 use Prim.Native.Nat.{ℕ, ◌+◌, ◌-◌, ◌*◌, ◌<◌, ◌≤◌}
 use native.Mathlib.Omega.{arith}
@@ -7,9 +7,7 @@ use lib.ListN.{length, get_or, take, drop, length-drop}
 use lib.Seq.{take_all}
 use Rattle.text.specs.Text.{hex_text, Wrote}
 use Rattle.text.proofs.Laws.{wrote_as, wrote_both, wrote_nothing, wrote_length}
-use Rattle.text_answers.specs.Answers.{refused_line}
-use Rattle.planner_promise.specs.declared.Planned.{Planned}
-use Rattle.plan_lines.specs.Told.{write_text, pairs_text, plan_line, planned_text}
+use Rattle.plan_lines.specs.Told.{write_text, pairs_text}
 
 -- the bytes that the code puts
 pub write_is : (register value : ℕ) {a b : List ℕ} → a ≡ hex_text 2 register → b ≡ hex_text 2 value
@@ -52,12 +50,3 @@ module _ {out₀ : List ℕ} {at : ℕ} {pairs : List ℕ} where
 
     pub writing_done : length rest ≤ 1 → Wrote out₀ at (pairs_text pairs) end out × (2 * end ≤ 2 * at + 5 * length pairs)
     writing_done h = (here.writes (wrote_as (pairs_end rest h) (wrote_nothing out end)), omega (arith, here.fits))
-
--- what the planner answered
-pub writes_text_lem : {planned : Planned} {n : ℕ} → planned ≡ Planned.Writes n → (pairs : List ℕ) → plan_line (pairs_text (take (2 * n - 0) pairs)) ≡ planned_text planned pairs
-writes_text_lem {planned} {n} e pairs =
-    let k : 2 * n - 0 ≡ 2 * n = omega arith in
-    ap (λ (i : ℕ). plan_line (pairs_text (take i pairs))) k ∙ ap (λ (x : Planned). planned_text x pairs) (sym e)
-
-pub refused_text : {planned : Planned} {number : ℕ} → planned ≡ Planned.Refused number → (pairs : List ℕ) → refused_line number ≡ planned_text planned pairs
-refused_text e pairs = ap (λ (x : Planned). planned_text x pairs) (sym e)

@@ -1,12 +1,13 @@
 -- What a line is answered: the planner's answer as text, with its newline.
-use Rattle.std.specs.Prelude.{◌≡◌, cond, List, [], ◌∷◌, ◌++◌, ℕ, ◌*◌, take}
+use Rattle.std.specs.Prelude.{◌≡◌, cond, List, [], ◌∷◌, ◌++◌, ℕ, ◌*◌, take, Result, Ok, Err}
 use Rattle.text.specs.Text.{hex_text, Wrote}
 use Rattle.text_answers.specs.Answers.{refused_line}
 use Rattle.map.specs.Map.{Part}
 use Rattle.planner_quiet.specs.Settings.{Write}
 use Rattle.planner_promise.specs.Formed.{room_for}
 use Rattle.planner_promise.specs.Answer.{Answer, refuse, give, answer_of}
-use Rattle.planner_promise.specs.declared.Planned.{Planned}
+use Rattle.plan_refusals.specs.declared.LineRefusal.{LineRefusal}
+use Rattle.plan_refusals.specs.Refusals.{line_number}
 use Rattle.plan_fields.specs.Lines.{readable, start_in, goal_in}
 
 -- the planner's answer to the settings that the line says; refusal 7 where it is not readable
@@ -45,9 +46,9 @@ pairs_text [] = []
 pairs_text (r ∷ []) = []
 pairs_text (r ∷ v ∷ pairs) = write_text r v ++ pairs_text pairs
 
-abbrev pub planned_text : Planned → (pairs : List ℕ) → List ℕ
-planned_text (Planned.Writes n) pairs = plan_line (pairs_text (take (2 * n) pairs))
-planned_text (Planned.Refused number) pairs = refused_line number
+abbrev pub planned_text : Result ℕ LineRefusal → (pairs : List ℕ) → List ℕ
+planned_text (Ok n) pairs = plan_line (pairs_text (take (2 * n) pairs))
+planned_text (Err refusal) pairs = refused_line (line_number refusal)
 
 -- the line's answer is written from at on, and its refusal's number told
 pub record Tells (p : Part) (line : List ℕ) (out : List ℕ) (at end refusal : ℕ) (left : List ℕ) : Type 0 where

@@ -1,18 +1,19 @@
 // What a line of settings is answered, written into lent memory.
 #![tactic(auto)]
 
-ghost use Rattle.std.specs.Prelude.{◌≡◌, List, ℕ, ◌+◌, ◌*◌, ◌≤◌, length, take};
+ghost use Rattle.std.specs.Prelude.{◌≡◌, List, ℕ, ◌+◌, ◌*◌, ◌≤◌, length};
 ghost use Rattle.text.specs.Text.{Wrote};
 ghost use Rattle.text_answers.specs.Answers.{refused_line};
-ghost use Rattle.map.specs.Map.{part_of};
-ghost use Rattle.planner_quiet.specs.Settings.{registers_of};
-ghost use Rattle.planner_promise.specs.Answer.{answer_of, Answers};
-ghost use Rattle.planner_promise.specs.Promise.{refusal_of, count_of};
+ghost use Rattle.map.specs.Chips.{part_at};
+ghost use Rattle.planner_promise.specs.Answer.{Answers};
+ghost use Rattle.planner_promise.specs.Promise.{count_of};
 ghost use Rattle.plan_fields.specs.Asks.{Holds, Said};
-ghost use Rattle.plan_lines.specs.Told.{write_text, pairs_text, plan_line, planned_text, Tells};
+ghost use Rattle.plan_refusals.specs.Refusals.{refused_as, number_told};
+ghost use Rattle.plan_lines.specs.Told.{answer_to, write_text, pairs_text, plan_line, Tells};
 
+use map::Chip;
 use plan_fields::Reading;
-use planner_promise::Planned;
+use plan_refusals::LineRefusal;
 
 // Puts a refusal's line into out from at on, and says where it ends.
 pub fn put_refusal(out: &mut [u8], at: usize, number: u8) -> usize
@@ -58,62 +59,43 @@ fn put_plan(out: &mut [u8], at: usize, pairs: &[u8]) -> usize
 // An answer's room: `plan`, the sister's 26 writes and a newline.
 pub const ROOM: usize = 135;
 
-// Where an answer ends, and the number of its refusal, 0 for a plan.
+// Where an answer ends, and what the line was refused for.
 #[derive(Clone, Copy)]
 pub struct Told {
     pub end: usize,
-    pub refusal: u8,
+    pub refusal: Option<LineRefusal>,
 }
 
-// What the planner answered, with the writes that it laid.
-fn put_planned(out: &mut [u8], at: usize, planned: Planned, pairs: &[u8]) -> Told
-    requires { (count_of planned ≤ 26) × (length pairs.now ≡ 52) × (at + 135 ≤ length out.old) }
-    ensures { Wrote out.old at (planned_text planned pairs.now) result.end out.new
-        × (result.refusal ≡ refusal_of planned) × (result.end ≤ at + 135) }
+// The part's planner is asked, where the line can be read; either part's plan fits.
+fn planned(chip: Chip, r: &Reading, pairs: &mut [u8; 52]) -> Result<usize, LineRefusal>
+    ensures { (line : List ℕ) → Holds r.now line → Answers (refused_as result) (count_of result) pairs.old pairs.new (answer_to (part_at chip) line) }
 {
-    match planned {
-        Planned::Writes(n) => {
-            let last = 2 * n;
-            Told {
-                end: put_plan(out, at, &pairs[0..last]),
-                refusal: 0,
-            }
-        }
-        Planned::Refused(number) => Told {
-            end: put_refusal(out, at, number),
-            refusal: number,
-        },
+    if !r.is_whole() {
+        return Err(LineRefusal::Unreadable);
     }
-}
-
-// The part's planner is asked; either one's plan fits.
-fn asked(part: u8, start: &[u8], goal: &[u8], pairs: &mut [u8]) -> Planned
-    requires { (length start.now ≡ 16) × (length goal.now ≡ 16) × (length pairs.old ≡ 52) }
-    ensures { Answers result pairs.old pairs.new (answer_of (part_of part) (take (length (registers_of (part_of part))) start.now) (take (length (registers_of (part_of part))) goal.now) 52) }
-{
-    if part == 0 {
-        return planner::plan(&start[0..10], &goal[0..10], pairs);
-    }
-    planner::plan34(start, goal, pairs)
+    let writes = planner::plan(
+        chip,
+        r.start.bytes.as_slice(),
+        r.goal.bytes.as_slice(),
+        pairs,
+    )?;
+    Ok(writes)
 }
 
 // The whole line's answer, written from at on.
-pub fn answer(part: u8, r: Reading, out: &mut [u8], at: usize) -> Told
-    requires { Said r × (at + 135 ≤ length out.old) }
-    ensures { ((line : List ℕ) → Holds r line → Tells (part_of part) line out.old at result.end result.refusal out.new) × (result.end ≤ at + 135) }
+pub fn answer(chip: Chip, r: &Reading, out: &mut [u8], at: usize) -> Told
+    requires { Said r.now × (at + 135 ≤ length out.old) }
+    ensures { ((line : List ℕ) → Holds r.now line → Tells (part_at chip) line out.old at result.end (number_told result.refusal) out.new) × (result.end ≤ at + 135) }
 {
-    let number = plan_refusals::line_refusal(part, r);
-    if number != 0 {
-        return Told {
-            end: put_refusal(out, at, number),
-            refusal: number,
-        };
-    }
-    let first = r.start;
-    let second = r.goal;
-    let start = first.bytes;
-    let goal = second.bytes;
     let mut pairs = [0u8; 52];
-    let planned = asked(part, &start, &goal, &mut pairs);
-    put_planned(out, at, planned, &pairs)
+    match planned(chip, r, &mut pairs) {
+        Ok(writes) => Told {
+            end: put_plan(out, at, &pairs[..2 * writes]),
+            refusal: None,
+        },
+        Err(refusal) => Told {
+            end: put_refusal(out, at, refusal.number()),
+            refusal: Some(refusal),
+        },
+    }
 }

@@ -1,39 +1,37 @@
-// What a line of settings is refused for before the planner is asked.
+// What a line of settings is refused for.
 #![tactic(auto)]
 
-ghost use Rattle.std.specs.Prelude.{◌≡◌, ◌≤◌, length};
-ghost use Rattle.map.specs.Map.{part_of};
-ghost use Rattle.planner_quiet.specs.Settings.{registers_of};
-ghost use Rattle.plan_fields.specs.Asks.{line_refusal};
+ghost use Rattle.std.specs.Prelude.{◌≡◌};
+ghost use Rattle.plan_refusals.specs.Refusals.{line_number};
 
-use plan_fields::Reading;
+use device_rules::UNREADABLE;
+use planner_promise::Refusal;
 
-// How many bytes a setting of the part has.
-fn setting_bytes(part: u8) -> u8
-    ensures { (result ≡ length (registers_of (part_of part))) × (result ≤ 16) }
-{
-    if part == 0 {
-        return 10;
-    }
-    16
+// It is not two fields of whole pairs, or the planner refuses what it says.
+#[derive(Clone, Copy, Debug, PartialEq, Eq)]
+pub enum LineRefusal {
+    Unreadable,
+    Planner(Refusal),
 }
 
-// What the line is refused for before the planner is asked; 0 for nothing.
-pub fn line_refusal(part: u8, r: Reading) -> u8
-    ensures { result ≡ line_refusal (part_of part) r }
-{
-    let bytes = setting_bytes(part);
-    let start = r.start;
-    let goal = r.goal;
-    let whole = !r.bad & (r.tabs == 1) & (start.high == 16) & (goal.high == 16);
-    if whole {
-        if start.count == bytes {
-            if goal.count == bytes {
-                return 0;
-            }
-            return 5;
+impl LineRefusal {
+    // Its number, as the line's answer has it.
+    pub fn number(self) -> u8
+        ensures { result ≡ line_number self }
+    {
+        match self {
+            LineRefusal::Unreadable => UNREADABLE,
+            LineRefusal::Planner(refusal) => refusal.number(),
         }
-        return 5;
     }
-    7
+}
+
+impl From<Refusal> for LineRefusal {
+    ghost use Rattle.plan_refusals.specs.declared.LineRefusal.TheVariants.{Planner};
+
+    ghost from_gives = { λ refusal line_refusal. line_refusal ≡ Planner refusal };
+
+    fn from(refusal: Refusal) -> LineRefusal {
+        LineRefusal::Planner(refusal)
+    }
 }

@@ -8,7 +8,7 @@ use native.Mathlib.Omega.{arith}
 use borrow.Author.Tests.{ltb-true, ltb-false, ne_eqb}
 use lib.Dec.{eqb, ltb}
 use lib.ListN.{get_or, length, drop}
-use Rattle.bits.specs.Bits.{bit, tabulate, some}
+use Rattle.bits.specs.Bits.{bit, tabulate}
 use Rattle.bits.proofs.Decide.{clash, taut}
 use Rattle.bits.proofs.Laws.{tabulated, tabulate_ext, bit_zero, some_bit}
 use Rattle.pins.specs.Pin.{drive, is_high, open_drain}

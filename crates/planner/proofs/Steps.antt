@@ -4,11 +4,11 @@ use mathlib.Core.List.{List, ◌++◌}
 use Prim.Native.Nat.{ℕ, ◌+◌, ◌*◌, ◌≤◌, ◌<◌}
 use native.Mathlib.Numerals.{add-one}
 use native.Mathlib.Omega.{arith}
-use lib.ListN.{length}
+use lib.ListN.{get_or, length}
 use Rattle.bits.specs.Bits.{bit}
 use Rattle.ports.specs.Ports.{byte_of}
-use Rattle.map.specs.Map.{Part}
-use Rattle.map.specs.Map.Kind.{PinKind}
+use Rattle.map.specs.Map.{Part, first_of}
+use Rattle.map.specs.Map.Kind.{PortKind, PinKind}
 use Rattle.planner_bytes.specs.declared.PinSets.{PinSets}
 use Rattle.planner_pairs.specs.Pairs.{pair_of, Emitted}
 use Rattle.planner_settings.specs.Loaded.{LaidOut}
@@ -32,6 +32,13 @@ module _ (p : Part) (l : Layout) (d : LaidOut p l) (k : ℕ) where
   pub flipped : (m g : PinSets) {a b n o : ℕ} {u v : List ℕ} → a ≡ byte_of k (bit m.flip) → b ≡ byte_of k (bit g.flip) → Puts (l.flip + k) a b n o u v
       → (out before : List ℕ) → Emitted out n before u → Emitted (out ++ port_pair p PinKind k m.flip g.flip) o before v
   flipped m g {o = o} {v = v} ea eb f out before z = subst (λ (l : List ℕ). Emitted l o before v) (λ i. out ++ pair_of (d.flip_is i + k) (ea i) (eb i)) (f out before z)
+
+-- the port kinds are the part's, in the setting's byte behind the two groups
+pub kinds_turned : (p : Part) (l : Layout) → LaidOut p l → (s g out : List ℕ) {n : ℕ} {before b : List ℕ}
+    → Emitted (out ++ pair_of l.kind (get_or s (2 * l.ports) 0) (get_or g (2 * l.ports) 0)) n before b
+    → Emitted (out ++ pair_of (first_of p PortKind) (get_or s (2 * p.ports) 0) (get_or g (2 * p.ports) 0)) n before b
+kinds_turned p l d s g out {n} {before} {b} z =
+    subst (λ (x : List ℕ). Emitted x n before b) (λ i. out ++ pair_of (d.kind_is i) (get_or s (2 * d.ports_is i) 0) (get_or g (2 * d.ports_is i) 0)) z
 
 -- ---- port by port to the middle
 pub record Opening (p : Part) (s m : PinSets) (before b : List ℕ) (ports n k : ℕ) : Type 0 where

@@ -1,10 +1,10 @@
 -- The answer, case by case. Assumes nothing.
-use mathlib.Core.Path.{◌≡◌, refl, sym, ap, subst, ◌∙◌}
-use mathlib.Core.Bool.{Bool, true, false, cond, not, ◌&&◌}
+use mathlib.Core.Path.{◌≡◌, refl, sym, subst}
+use mathlib.Core.Bool.{Bool, true, false, cond, ◌&&◌}
 use mathlib.Core.List.{List}
 use Prim.Native.Nat.{ℕ, zero, suc, ◌+◌, ◌^◌, ◌<◌, ◌≤◌}
 use native.Mathlib.Omega.{arith}
-use borrow.Author.Tests.{not-true, not-false, eqb-true, ltb-true, lt-ltb, le-ltb}
+use borrow.Author.Tests.{eqb-true, ltb-true, lt-ltb, le-ltb}
 use lib.Dec.{eqb, ltb}
 use lib.ListN.{length, get_or}
 use Rattle.map.specs.Map.{Part}
@@ -13,15 +13,7 @@ use Rattle.planner_quiet.specs.Order.{Sound, blocked}
 use Rattle.planner_quiet.specs.Route.{plan_of}
 use Rattle.planner_promise.specs.Formed.{fit_from, formed, room_for}
 use Rattle.planner_promise.specs.Answer.{Answer, refuse, give, answer_of, Answers, Planted}
-use Rattle.planner_promise.specs.declared.Planned.{Planned}
 use Rattle.planner_quiet.proofs.Blocked.{both}
-
--- a test `!r` of the result r of a function that promises r ≡ f
-pub fails : {r f : Bool} → r ≡ f → not r ≡ true → f ≡ false
-fails {r} e h = sym e ∙ not-true r h
-
-pub holds : {r f : Bool} → r ≡ f → not r ≡ false → f ≡ true
-holds {r} e h = sym e ∙ not-false r h
 
 -- every byte of a well-formed setting fits
 fit_at : (p : Part) (s : Settings) (n a j : ℕ) → fit_from p s a n ≡ true → j < n → get_or s (a + j) 0 < 2 ^ (shape_of p).room (a + j)
@@ -52,23 +44,23 @@ module _ (p : Part) (s g : Settings) (before : List ℕ) where
   unfolding answer_of
   to a b c d ha hb hc hd = λ i. chain p s g (ha i) (hb i) (hc i) (hd i)
 
-  refused : (n : ℕ) → answer_of p s g (length before) ≡ refuse n → Answers (Planned.Refused n) before before (answer_of p s g (length before))
-  refused n e = subst (Answers (Planned.Refused n) before before) (sym e) (refl, refl)
+  refused : (n : ℕ) → answer_of p s g (length before) ≡ refuse n → Answers n 0 before before (answer_of p s g (length before))
+  refused n e = subst (Answers n 0 before before) (sym e) (refl, refl, refl)
 
-  pub bad_start : formed p s ≡ false → Answers (Planned.Refused 5) before before (answer_of p s g (length before))
+  pub bad_start : formed p s ≡ false → Answers 5 0 before before (answer_of p s g (length before))
   bad_start h = refused 5 (to false _ _ _ h refl refl refl)
 
-  pub bad_goal : formed p s ≡ true → formed p g ≡ false → Answers (Planned.Refused 5) before before (answer_of p s g (length before))
+  pub bad_goal : formed p s ≡ true → formed p g ≡ false → Answers 5 0 before before (answer_of p s g (length before))
   bad_goal ha hb = refused 5 (to true false _ _ ha hb refl refl)
 
   module _ (ha : formed p s ≡ true) (hb : formed p g ≡ true) where
-    pub no_room : length before < room_for p → Answers (Planned.Refused 6) before before (answer_of p s g (length before))
+    pub no_room : length before < room_for p → Answers 6 0 before before (answer_of p s g (length before))
     no_room h = refused 6 (to true true true _ ha hb (lt-ltb (length before) (room_for p) h) refl)
 
-    pub no_way : room_for p ≤ length before → blocked (shape_of p) s g ≡ true → Answers (Planned.Refused 4) before before (answer_of p s g (length before))
+    pub no_way : room_for p ≤ length before → blocked (shape_of p) s g ≡ true → Answers 4 0 before before (answer_of p s g (length before))
     no_way h e = refused 4 (to true true false true ha hb (le-ltb (length before) (room_for p) h) e)
 
     pub planned : room_for p ≤ length before → blocked (shape_of p) s g ≡ false → (n : ℕ) (after : List ℕ) → Planted p s g n before after
-        → Answers (Planned.Writes n) before after (answer_of p s g (length before))
+        → Answers 0 n before after (answer_of p s g (length before))
     planned h e n after d =
-        subst (Answers (Planned.Writes n) before after) (sym (to true true false false ha hb (le-ltb (length before) (room_for p) h) e)) (ap Planned.Writes d.count, d.bytes)
+        subst (Answers 0 n before after) (sym (to true true false false ha hb (le-ltb (length before) (room_for p) h) e)) (refl, d.count, d.bytes)

@@ -6,7 +6,6 @@ use Rattle.planner_quiet.specs.Order.{blocked}
 use Rattle.planner_quiet.specs.Route.{plan_of}
 use Rattle.planner_promise.specs.Formed.{formed, room_for}
 use Rattle.planner_promise.specs.Promise.{bytes_of}
-use Rattle.planner_promise.specs.declared.Planned.{Planned}
 
 pub data Answer : Type 0 where
   refuse : ℕ → Answer
@@ -19,10 +18,10 @@ answer_of p start goal room =
     (cond (ltb room (room_for p)) (refuse 6) (cond (blocked (shape_of p) start goal) (refuse 4) (give (plan_of (shape_of p) start goal))))
     (refuse 5)
 
--- the function's result r, and the buffer before and after, are that answer
-abbrev pub Answers : Planned → (before after : List ℕ) → Answer → Type 0
-Answers r before after (refuse c) = (r ≡ Planned.Refused c) × (after ≡ before)
-Answers r before after (give ws) = (r ≡ Planned.Writes (length ws)) × (after ≡ bytes_of ws ++ drop (2 * length ws) before)
+-- the result's two numbers, and the buffer before and after, are that answer
+abbrev pub Answers : (refusal count : ℕ) → (before after : List ℕ) → Answer → Type 0
+Answers refusal count before after (refuse c) = (refusal ≡ c) × (count ≡ 0) × (after ≡ before)
+Answers refusal count before after (give ws) = (refusal ≡ 0) × (count ≡ length ws) × (after ≡ bytes_of ws ++ drop (2 * length ws) before)
 
 -- the plan stands at the front of the buffer: n writes
 pub record Planted (p : Part) (start goal : Settings) (n : ℕ) (before after : List ℕ) : Type 0 where

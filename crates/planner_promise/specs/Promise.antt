@@ -1,19 +1,25 @@
 -- What the planner promises, without a word on how a plan is found.
-use Rattle.std.specs.Prelude.{true, false, ◌&&◌, List, [], ◌∷◌, ◌++◌, ◌⊎◌, ◌≡◌, ℕ, ◌*◌, ◌≤◌, ◌<◌, length, drop}
+use Rattle.std.specs.Prelude.{true, false, ◌&&◌, List, [], ◌∷◌, ◌++◌, ◌⊎◌, ◌≡◌, ℕ, ◌*◌, ◌≤◌, ◌<◌, length, drop, Result, Ok, Err}
 use Rattle.map.specs.Map.{Part}
 use Rattle.planner_quiet.specs.Settings.{Settings, Write}
 use Rattle.planner_quiet.specs.Quiet.{QuietOn, Quiet, Changing, Sparing, OnAll, Listed}
 use Rattle.planner_promise.specs.Formed.{formed, bound, room_for}
-use Rattle.planner_promise.specs.declared.Planned.{Planned}
+use Rattle.planner_promise.specs.declared.Refusal.{Refusal}
+use Rattle.planner_promise.specs.declared.Refusal.TheVariants.{NoQuietWay, BadSetting, BufferSmall}
+
+abbrev pub number_of : Refusal → ℕ
+number_of NoQuietWay = 4
+number_of BadSetting = 5
+number_of BufferSmall = 6
 
 -- an answer's numbers: that of the refusal, 0 for none, and how many writes there are, 0 where it was refused
-abbrev pub refusal_of : Planned → ℕ
-refusal_of (Planned.Writes n) = 0
-refusal_of (Planned.Refused n) = n
+abbrev pub refusal_of : {A : Type 0} → Result A Refusal → ℕ
+refusal_of (Ok a) = 0
+refusal_of (Err e) = number_of e
 
-abbrev pub count_of : Planned → ℕ
-count_of (Planned.Writes n) = n
-count_of (Planned.Refused n) = 0
+abbrev pub count_of : {E : Type 0} → Result ℕ E → ℕ
+count_of (Ok n) = n
+count_of (Err e) = 0
 
 -- a plan as bytes: register, value, register, value
 abbrev pub bytes_of : List Write → List ℕ

@@ -1,16 +1,26 @@
 // What the planner promises, and what it answers.
-// The number of writes, or the number of the refusal.
 #![tactic(auto)]
 
-#[derive(Clone, Copy)]
-pub enum Planned {
-    Writes(usize),
-    Refused(u8),
+ghost use Rattle.std.specs.Prelude.{◌≡◌};
+ghost use Rattle.planner_promise.specs.Promise.{number_of};
+
+// Why there is no plan.
+#[derive(Clone, Copy, Debug, PartialEq, Eq)]
+pub enum Refusal {
+    NoQuietWay,
+    BadSetting,
+    BufferSmall,
 }
 
-// Refusals of a plan, by their numbers.
-pub const NO_QUIET_WAY: u8 = 4;
-
-pub const BAD_SETTING: u8 = 5;
-
-pub const BUFFER_SMALL: u8 = 6;
+impl Refusal {
+    // Its number, as answers on lines and to C have it.
+    pub fn number(self) -> u8
+        ensures { result ≡ number_of self }
+    {
+        match self {
+            Refusal::NoQuietWay => 4,
+            Refusal::BadSetting => 5,
+            Refusal::BufferSmall => 6,
+        }
+    }
+}

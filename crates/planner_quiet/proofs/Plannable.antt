@@ -2,14 +2,17 @@
 use mathlib.Core.Path.{◌≡◌, refl, sym, ap, subst, ◌∙◌}
 use mathlib.Core.Bool.{Bool, true, false, cond, not, ◌&&◌, ◌||◌}
 use mathlib.Core.List.{List, [], ◌∷◌}
-use Prim.Native.Nat.{ℕ, zero, suc, ◌+◌, ◌*◌, ◌%◌, ◌^◌, ◌<◌}
+use Prim.Native.Nat.{ℕ, suc, ◌+◌, ◌*◌, ◌%◌, ◌^◌, ◌<◌}
 use native.Mathlib.Nat.{min-le_left, mod-mod, mod-eq_of_lt}
 use native.Mathlib.Omega.{arith}
 use borrow.Author.Tests.{eqb-true, ltb-true, lt-ltb}
 use lib.Dec.{eqb, ltb}
 use lib.ListN.{get_or, length}
 use Rattle.bits.proofs.Decide.{each, each_bool, clash, taut}
-use Rattle.map.specs.Map.{Part, Kind, part24, part34, part_of, code, first_of, kind_at, reserved, room_at, whole, kept_in, fitting, fitting_at}
+use Rattle.map.specs.Chips.{part_at}
+use Rattle.map.specs.declared.Chip.{Chip}
+use Rattle.map.specs.declared.Chip.TheVariants.{Pcal6524, Pcal6534}
+use Rattle.map.specs.Map.{Part, Kind, part24, part34, code, first_of, kind_at, reserved, room_at, whole, kept_in, fitting, fitting_at}
 use Rattle.map.specs.Map.Kind.{Reserved, Input, Status, InputStatus, Configuration, Latch, Mask, PortKind, Edge, Clear, Output, Polarity, PinKind, Stored}
 use Rattle.registers.specs.Registers.{kept_as}
 use Rattle.registers.proofs.Pinwise.{Mapped, mapped24, mapped34}
@@ -118,9 +121,9 @@ plannable34 = record {
 }
 
 -- of both, by the part's number
-pub plannable : (n : ℕ) → Plannable (part_of n)
-plannable zero = plannable24
-plannable (suc n) = plannable34
+pub plannable : (chip : Chip) → Plannable (part_at chip)
+plannable Pcal6524 = plannable24
+plannable Pcal6534 = plannable34
 
 -- ---- of a byte the bits that exist are stored, and a byte may stand there that has no other
 -- in the output port kind

@@ -1,3 +1,2 @@
-pub mod Early
 pub mod Formed
 pub mod Words

@@ -3,12 +3,14 @@
 
 ghost use Rattle.std.specs.Prelude.{◌≡◌, true, ◌+◌, ◌≤◌, length, get_or};
 ghost use Rattle.bits.specs.Bits.{join};
-ghost use Rattle.map.specs.Map.{part_of};
-ghost use Rattle.planner_promise.specs.Formed.{formed};
+ghost use Rattle.map.specs.Chips.{part_at};
+ghost use Rattle.planner_promise.specs.Formed.{formed, room_for};
+ghost use Rattle.planner_promise.specs.Promise.{refusal_of};
 ghost use Rattle.planner_settings.specs.Loaded.{LaidOut, Loaded, early};
 
+use map::Chip;
 use planner_bytes::PinSets;
-use planner_promise::{BAD_SETTING, BUFFER_SMALL};
+use planner_promise::Refusal;
 
 // What the planner knows of a part: its ports, the first register of each group, and the most that a setting's byte may be
 // in the output port kind and in the last port.
@@ -23,40 +25,38 @@ pub struct Layout {
     pub last: u8,
 }
 
-pub const LAYOUT24: Layout = Layout {
-    ports: 3,
-    output: map::OUTPUT24,
-    configuration: map::CONFIGURATION24,
-    kind: map::PORT_KIND24,
-    flip: map::PIN_KIND24,
-    kinds: 0x07,
-    last: 0xff,
-};
-
-pub const LAYOUT34: Layout = Layout {
-    ports: 5,
-    output: map::OUTPUT34,
-    configuration: map::CONFIGURATION34,
-    kind: map::PORT_KIND34,
-    flip: map::PIN_KIND34,
-    kinds: 0x1f,
-    last: 0x03,
-};
-
-pub fn laid_out(part: u64) -> Layout
-    ensures { LaidOut (part_of part) result }
-{
-    if part == 0 {
-        return LAYOUT24;
+impl Layout {
+    pub fn of(chip: Chip) -> Layout
+        ensures { LaidOut (part_at chip) result }
+    {
+        match chip {
+            Chip::Pcal6524 => Layout {
+                ports: 3,
+                output: map::OUTPUT24,
+                configuration: map::CONFIGURATION24,
+                kind: map::PORT_KIND24,
+                flip: map::PIN_KIND24,
+                kinds: 0x07,
+                last: 0xff,
+            },
+            Chip::Pcal6534 => Layout {
+                ports: 5,
+                output: map::OUTPUT34,
+                configuration: map::CONFIGURATION34,
+                kind: map::PORT_KIND34,
+                flip: map::PIN_KIND34,
+                kinds: 0x1f,
+                last: 0x03,
+            },
+        }
     }
-    LAYOUT34
 }
 
 // Whether s is a setting of the part: a byte a register, and no bit that does not exist.
-pub fn is_formed(part: u64, s: &[u8]) -> bool
-    ensures { result ≡ formed (part_of part) s.now }
+pub fn is_formed(chip: Chip, s: &[u8]) -> bool
+    ensures { result ≡ formed (part_at chip) s.now }
 {
-    let l = laid_out(part);
+    let l = Layout::of(chip);
     let n = l.ports as usize;
     if s.len() != 3 * n + 1 {
         return false;
@@ -64,20 +64,17 @@ pub fn is_formed(part: u64, s: &[u8]) -> bool
     (s[2 * n] <= l.kinds) & (s[n - 1] <= l.last) & (s[2 * n - 1] <= l.last) & (s[3 * n] <= l.last)
 }
 
-// Why there is no plan whatever the pins do: 5, then 6; 0 for nothing.
-pub fn refused_early(part: u64, start: &[u8], goal: &[u8], room: usize, needed: usize) -> u8
-    ensures { result ≡ early (part_of part) start.now goal.now room needed }
+// Why there is no plan whatever the pins do: a bad setting, then a small buffer.
+pub fn refused_early(chip: Chip, start: &[u8], goal: &[u8], room: usize) -> Result<(), Refusal>
+    ensures { refusal_of result ≡ early (part_at chip) start.now goal.now room (room_for (part_at chip)) }
 {
-    if !is_formed(part, start) {
-        return BAD_SETTING;
+    if !is_formed(chip, start) || !is_formed(chip, goal) {
+        return Err(Refusal::BadSetting);
     }
-    if !is_formed(part, goal) {
-        return BAD_SETTING;
+    if room < device_rooms::plan_room(chip) {
+        return Err(Refusal::BufferSmall);
     }
-    if room < needed {
-        return BUFFER_SMALL;
-    }
-    0
+    Ok(())
 }
 
 // The bytes of n ports as a pin set.
@@ -86,20 +83,18 @@ fn word(s: &[u8], at: usize, n: usize) -> u64
     ensures { result ≡ join 8 n (λ k. get_or s.now (at + k) 0) }
 {
     let mut w = 0u64;
-    let mut k = n;
-    while 0 < k {
-        k -= 1;
+    for k in (0..n).rev() {
         w = w * 256 + s[at + k] as u64;
     }
     w
 }
 
 // A setting as pin sets.
-pub fn load(part: u64, s: &[u8]) -> PinSets
-    requires { formed (part_of part) s.now ≡ true }
-    ensures { Loaded (part_of part) s.now result }
+pub fn load(chip: Chip, s: &[u8]) -> PinSets
+    requires { formed (part_at chip) s.now ≡ true }
+    ensures { Loaded (part_at chip) s.now result }
 {
-    let n = laid_out(part).ports as usize;
+    let n = Layout::of(chip).ports as usize;
     PinSets {
         output: word(s, 0, n),
         configuration: word(s, n, n),

@@ -5,6 +5,6 @@ use Rattle.ghixramel.proofs.ghixramel34_plan.Goals as goal
 
 pub returns : goal.returns
 returns c =
-    let planned = c.plan34-planned in
+    let planned = c.plan-planned in
     let k = plan_told part34 planned.result planned.ensures.promise planned.ensures.exact c.tell_plan.ensures.0 c.tell_plan.ensures.1 in
-    record { exact = k.0; promise = k.1.0; refused = k.1.1 }
+    record { exact = k.0; promise = k.1; refused = k.2 }

@@ -1,35 +1,35 @@
--- `plan_lines::answer`: refused by the line, or as the planner answers (`Answering`). Assumes nothing.
+-- `plan_lines::answer`: the plan or the refusal is put (`tells`); a plan has room, since what is read is some line's. Assumes nothing.
 use native.Mathlib.Omega.{arith}
-use borrow.Author.Rules.{rules}
-use mathlib.Core.Path.{◌≡◌}
-use lib.ListN.{length, replicate, take}
-use Rattle.map.specs.Map.{part_of}
-use Rattle.planner_quiet.specs.Settings.{registers_of}
-use Rattle.planner_promise.specs.Answer.{answer_of}
-use Rattle.plan_lines.proofs.Parts.{few_bytes, roomy}
-use Rattle.plan_lines.proofs.Answering.{few_writes, refused_tells, planned_tells}
+use mathlib.Core.Path.{ap}
+use Prim.Native.Nat.{◌*◌}
+use lib.ListN.{length-take, replicate}
+use Rattle.std.proofs.Common.{Ok, Err}
+use Rattle.text.proofs.Laws.{wrote_as}
+use Rattle.text_answers.specs.Answers.{refused_line}
+use Rattle.map.specs.Chips.{part_at}
+use Rattle.plan_lines.specs.Told.{answer_to}
+use Rattle.plan_lines.proofs.Answering.{few_writes, tells}
 use Rattle.plan_lines.proofs.answer.Goals as goal
 
-pub returns-then-number-ne0 : goal.returns-then-number-ne0
-returns-then-number-ne0 c =
-    let n = c.args.part in (
-      λ line held.
-          refused_tells (part_of n) (few_bytes n) line c.args.r held c.line_refusal-number.result c.line_refusal-number.ensures c.if-number-ne0.true c.put_refusal.ensures.0,
-      omega (arith, c.put_refusal.ensures.1),
-    )
+pub overflow_mul-pairs : goal.overflow_mul-pairs
+overflow_mul-pairs c =
+    let said = c.requires.0 in
+    omega (arith, few_writes (replicate 52 0) c.planned.new.pairs (Ok c.in-Ok.writes) (answer_to (part_at c.args.chip) said.text) (c.in-Ok.ensures said.text said.holds) c.planned.array_long)
 
-pub put_planned-requires : goal.put_planned-requires
-put_planned-requires c =
-    let all : length c.asked-planned.new.pairs ≡ 52 = search rules in
-    let r = c.args.r in
-    let m = length (registers_of (part_of c.args.part)) in
-    (few_writes c.asked-planned.result (replicate 52 0) _ (answer_of (part_of c.args.part) (take m r.start.bytes) (take m r.goal.bytes) 52) c.asked-planned.ensures all, all, search rules)
+pub slice_bounds-pairs-end : goal.slice_bounds-pairs-end
+slice_bounds-pairs-end c =
+    let said = c.requires.0 in
+    omega (arith, c.planned.array_long, few_writes (replicate 52 0) c.planned.new.pairs (Ok c.in-Ok.writes) (answer_to (part_at c.args.chip) said.text) (c.in-Ok.ensures said.text said.holds) c.planned.array_long)
 
-pub returns : goal.returns
-returns c =
-    let n = c.args.part in (
-      λ line held.
-          planned_tells (part_of n) (few_bytes n) line c.args.r held c.line_refusal-number.result c.line_refusal-number.ensures c.if-number-ne0.false c.asked-planned.result (replicate 52 0) _ 52
-          (roomy n _ _) c.asked-planned.ensures c.put_planned.ensures.0 c.put_planned.ensures.1,
-      c.put_planned.ensures.2,
-    )
+pub slice_bounds-put_plan-end : goal.slice_bounds-put_plan-end
+slice_bounds-put_plan-end c =
+    let said = c.requires.0 in
+    omega (arith, length-take (2 * c.in-Ok.writes) c.planned.new.pairs, c.planned.array_long, few_writes (replicate 52 0) c.planned.new.pairs (Ok c.in-Ok.writes) (answer_to (part_at c.args.chip) said.text) (c.in-Ok.ensures said.text said.holds) c.planned.array_long)
+
+pub returns-in-Ok : goal.returns-in-Ok
+returns-in-Ok c =
+    (λ line held. tells (part_at c.args.chip) line (Ok c.in-Ok.writes) (replicate 52 0) c.planned.new.pairs (c.in-Ok.ensures line held) c.put_plan.ensures.0, c.put_plan.ensures.1)
+
+pub returns-in-Err : goal.returns-in-Err
+returns-in-Err c =
+    (λ line held. tells (part_at c.args.chip) line (Err c.in-Err.refusal) (replicate 52 0) c.planned.new.pairs (c.in-Err.ensures line held) (wrote_as (ap refused_line c.number.ensures) c.put_refusal.ensures.0), omega (arith, c.put_refusal.ensures.1))

@@ -1,11 +1,10 @@
 use borrow.Author.Rules.{rules}
-use Prim.Native.Nat.{◌-◌}
 use native.Mathlib.Omega.{arith}
 use Rattle.planner.proofs.Steps.{opening_begins, opening_goes, opening_ends}
 use Rattle.planner.proofs.open_ports.Goals as goal
 
 pub loop-k-init : goal.loop-k-init
-loop-k-init c = opening_begins _ _ _ _ _ c.laid_out-ports.ensures.ports_is
+loop-k-init c = opening_begins _ _ _ _ _ c.of-ports.ensures.ports_is
 
 pub loop-k-preserved : goal.loop-k-preserved
 loop-k-preserved c =

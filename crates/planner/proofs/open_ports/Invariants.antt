@@ -1,11 +1,7 @@
 -- `planner::open_ports`: port by port; the invariant is `Opening`. Assumes nothing.
-use Prim.Native.Nat.{◌-◌}
-use Rattle.map.specs.Map.{part_of}
+use Rattle.map.specs.Chips.{part_at}
 use Rattle.planner.proofs.Steps.{Opening}
 use Rattle.planner.proofs.open_ports.Given as goal
 
 abbrev pub invariant-loop-k : goal.invariant-loop-k
-invariant-loop-k l = Opening (part_of l.part) l.s l.m l.initial.buf l.buf l.ports l.n l.k
-
-abbrev pub decreases-loop-k : goal.decreases-loop-k
-decreases-loop-k l = l.ports - l.k
+invariant-loop-k l = Opening (part_at l.chip) l.s l.m l.initial.buf l.buf l.ports l.n l.k

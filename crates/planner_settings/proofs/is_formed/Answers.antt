@@ -6,11 +6,11 @@ use Rattle.planner_settings.proofs.is_formed.Goals as goal
 pub returns-then-s-n : goal.returns-then-s-n
 returns-then-s-n c =
     let a = c.args in
-    formed_not _ (plannable a.part) a.s.now c.laid_out-l.result.ports c.laid_out-l.ensures.ports_is c.if-s-n.true
+    formed_not _ (plannable a.chip) a.s.now c.of-l.result.ports c.of-l.ensures.ports_is c.if-s-n.true
 
 pub returns : goal.returns
 returns c =
     let a = c.args in
-    let d = c.laid_out-l.ensures in
-    formed_is _ (plannable a.part) a.s.now c.laid_out-l.result.ports d.ports_is c.laid_out-l.result.kinds c.laid_out-l.result.last d.kinds_is d.last_is c.if-s-n.false
+    let d = c.of-l.ensures in
+    formed_is _ (plannable a.chip) a.s.now c.of-l.result.ports d.ports_is c.of-l.result.kinds c.of-l.result.last d.kinds_is d.last_is c.if-s-n.false
     (λ i. (c.type_inv.s i).fits)

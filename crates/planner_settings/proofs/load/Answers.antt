@@ -9,26 +9,26 @@ use Rattle.planner_settings.proofs.load.Goals as goal
 
 pub word-requires : goal.word-requires
 word-requires c =
-    (omega (arith, whole _ (plannable c.args.part) c.args.s.now c.requires, c.laid_out-n.ensures.ports_is), omega (arith, c.laid_out-n.ensures.few))
+    (omega (arith, whole _ (plannable c.args.chip) c.args.s.now c.requires, c.of-n.ensures.ports_is), omega (arith, c.of-n.ensures.few))
 
 pub word-requires-2 : goal.word-requires-2
 word-requires-2 c =
-    (omega (arith, whole _ (plannable c.args.part) c.args.s.now c.requires, c.laid_out-n.ensures.ports_is), omega (arith, c.laid_out-n.ensures.few))
+    (omega (arith, whole _ (plannable c.args.chip) c.args.s.now c.requires, c.of-n.ensures.ports_is), omega (arith, c.of-n.ensures.few))
 
 pub bounds-s-n : goal.bounds-s-n
 bounds-s-n c =
-    omega (arith, whole _ (plannable c.args.part) c.args.s.now c.requires, c.laid_out-n.ensures.ports_is)
+    omega (arith, whole _ (plannable c.args.chip) c.args.s.now c.requires, c.of-n.ensures.ports_is)
 
 pub spread-requires : goal.spread-requires
 spread-requires c =
-    let e = c.laid_out-n.ensures.ports_is in
-    subst (λ (n : ℕ). get_or c.args.s.now (2 * n) 0 < 32) (sym e) (kinds_few _ (plannable c.args.part) c.args.s.now c.requires (omega (arith, e, c.laid_out-n.ensures.few)))
+    let e = c.of-n.ensures.ports_is in
+    subst (λ (n : ℕ). get_or c.args.s.now (2 * n) 0 < 32) (sym e) (kinds_few _ (plannable c.args.chip) c.args.s.now c.requires (omega (arith, e, c.of-n.ensures.few)))
 
 pub word-requires-3 : goal.word-requires-3
 word-requires-3 c =
-    (omega (arith, whole _ (plannable c.args.part) c.args.s.now c.requires, c.laid_out-n.ensures.ports_is), omega (arith, c.laid_out-n.ensures.few))
+    (omega (arith, whole _ (plannable c.args.chip) c.args.s.now c.requires, c.of-n.ensures.ports_is), omega (arith, c.of-n.ensures.few))
 
 pub returns : goal.returns
 returns c =
-    loaded _ c.args.s.now (λ i. (c.type_inv.s i).fits) c.laid_out-n.result.ports c.word.result c.word-2.result c.spread.result c.word-3.result
-    c.laid_out-n.ensures.ports_is c.word.ensures c.word-2.ensures c.spread.ensures c.word-3.ensures
+    loaded _ c.args.s.now (λ i. (c.type_inv.s i).fits) c.of-n.result.ports c.word.result c.word-2.result c.spread.result c.word-3.result
+    c.of-n.ensures.ports_is c.word.ensures c.word-2.ensures c.spread.ensures c.word-3.ensures
