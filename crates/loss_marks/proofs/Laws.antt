@@ -1,10 +1,9 @@
 -- What a step asks of its event and of the device's answer: whether the one is a reset, and the other a refusal. Assumes nothing.
 use mathlib.Core.Path.{◌≡◌, refl, sym, ap}
-use mathlib.Core.Bool.{Bool, true, false}
-use Prim.Native.Nat.{ℕ, zero, suc, ◌%◌, ◌≤◌}
+use Prim.Native.Nat.{ℕ, zero, suc}
 use native.Mathlib.Omega.{arith}
-use borrow.Author.Tests.{eq-eqb, ne_eqb, le-leb, ltb-true, ltb-false}
-use lib.Dec.{eqb, ltb, leb}
+use borrow.Author.Tests.{le-leb}
+use lib.Dec.{eqb, leb}
 use Rattle.device_rules.specs.Device.{State}
 use Rattle.device_rules.specs.Refusals.{event_of}
 use Rattle.loss_rules.specs.Marks.{is_reset}

@@ -1,7 +1,6 @@
 -- What is packed of a part names it. Assumes nothing.
 use mathlib.Core.List.{List}
 use Prim.Native.Nat.{ℕ}
-use lib.ListN.{get_or}
 use Rattle.map.specs.Map.{part_of}
 use Rattle.device_rules.specs.Refusals.{stepped}
 use Rattle.device_rules.specs.declared.Answer.{Answer}

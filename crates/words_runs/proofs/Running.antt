@@ -2,21 +2,17 @@
 use mathlib.Core.Path.{◌≡◌, refl, sym, ap, subst, ◌∙◌}
 use mathlib.Core.Bool.{false}
 use mathlib.Core.List.{List, [], ◌∷◌, ◌++◌, append_assoc, append-nil}
-use mathlib.Core.Logic.{⊎_elim}
 use Prim.Native.Nat.{ℕ, suc, ◌+◌, ◌*◌, ◌-◌, ◌≤◌, ◌<◌}
 use native.Mathlib.Numerals.{add-one}
 use native.Mathlib.Omega.{arith}
-use types.Run.{OneOf}
-use denote.Enum.Declared.{tag_of}
 use lib.Dec.{eqb}
 use lib.ListN.{length, set, take, drop, length-set, take-append-drop}
 use lib.Seq.{take-suc-set, drop-set-lt, drop-drop, length-take-le}
 use Rattle.map.specs.Map.{Part, part_of}
 use Rattle.device_rules.specs.Device.{State, Outcome, out}
 use Rattle.device_rules.specs.Answers.{answer_kind, answer_byte}
-use Rattle.device_rules.specs.contracts.Answer.{the_type}
 use Rattle.device_rules.specs.declared.Answer.{Answer}
-use Rattle.device_rules.specs.declared.Answer.TheVariants.{Nothing, Ack, Nak, Byte, Refused}
+use Rattle.device_rules.specs.declared.Answer.TheVariants.{Refused}
 use Rattle.words_state.specs.Packed.{state_in, Packed, Leaves}
 use Rattle.words_events.specs.Events.{Sent, event_at, sent_of, one}
 use Rattle.words_runs.specs.Runs.{Ran, ended, onto, two_of, after_one, ran, Left}

@@ -1,11 +1,10 @@
 -- Packed words stay packed when their registers and pins, their pointer or their bus state change, and hold the state so changed. Assumes nothing.
-use mathlib.Core.Path.{◌≡◌, refl, sym, ap, ap₂, ◌∙◌}
+use mathlib.Core.Path.{◌≡◌, refl, sym, ap, ◌∙◌}
 use mathlib.Core.Bool.{false}
-use mathlib.Core.List.{List, [], ◌∷◌}
-use Prim.Native.Nat.{ℕ, zero, suc, ◌+◌, ◌*◌, ◌/◌, ◌%◌, ◌<◌}
-use native.Mathlib.Nat.{mod-eq_of_lt, mod-lt}
+use mathlib.Core.List.{List}
+use Prim.Native.Nat.{ℕ, ◌%◌, ◌<◌}
+use native.Mathlib.Nat.{mod-lt}
 use native.Mathlib.Omega.{arith}
-use lib.Arith.{digits_div, digits_mod}
 use lib.Dec.{eqb}
 use lib.ListN.{get_or, set, length-set}
 use lib.Seq.{get_or-set_same, get_or-set_other}
@@ -19,7 +18,6 @@ use Rattle.registers.proofs.Writing.{same as same-core}
 use Rattle.device_rules.specs.Device.{State, Outcome, bus_at, state, out, at_place, byte_in, step}
 use Rattle.device_rules.specs.Device.Event.{ByteSent}
 use Rattle.device_rules.specs.declared.Answer.{Answer}
-use Rattle.device_rules.specs.declared.Answer.TheVariants.{Nothing, Ack, Nak, Byte, Refused}
 use Rattle.device_rules.proofs.Stepping.{same_state, same_identity, at_bus}
 use Rattle.words.specs.Words.{core_in, interrupt_in, with_interrupt, Fit, Holds}
 use Rattle.words.proofs.Sound.{sound}

@@ -1,5 +1,4 @@
 -- `words_asking::asked`: our byte with either lowest bit, or none. Assumes nothing.
-use mathlib.Core.Path.{ap}
 use native.Mathlib.Omega.{arith}
 use Rattle.device_rules.specs.Device.{byte_in}
 use Rattle.device_rules.specs.declared.Answer.TheVariants.{Ack, Nak}

@@ -1,5 +1,5 @@
 -- `words_bytes::byte`: each arm is the rule of its bus state. Assumes nothing.
-use mathlib.Core.Path.{refl, ap}
+use mathlib.Core.Path.{refl}
 use native.Mathlib.Omega.{arith}
 use Rattle.map.specs.Map.{part_of}
 use Rattle.device_rules.specs.Device.{byte_in}

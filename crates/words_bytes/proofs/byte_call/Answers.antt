@@ -1,5 +1,4 @@
 -- `words_bytes::byte_call`: each branch is one of the rule's. Assumes nothing.
-use mathlib.Core.Path.{ap}
 use native.Mathlib.Omega.{arith}
 use borrow.Author.Tests.{eq-eqb, ne_eqb}
 use Rattle.device_rules.specs.Device.{byte_in}

@@ -1,5 +1,5 @@
 -- `words_conditions::start`: by the bus state. Assumes nothing.
-use mathlib.Core.Path.{refl, ap}
+use mathlib.Core.Path.{refl}
 use native.Mathlib.Omega.{arith}
 use Rattle.map.specs.Map.{part_of}
 use Rattle.device_rules.specs.Device.{start_in}

@@ -1,5 +1,5 @@
 -- `words_identity::tell`: the byte at the place, and the place steps, or Deaf. Assumes nothing.
-use mathlib.Core.Path.{refl, ap, ◌∙◌}
+use mathlib.Core.Path.{refl, ap}
 use native.Mathlib.Omega.{arith}
 use Rattle.map.specs.Map.{part_of}
 use Rattle.device_rules.specs.Device.{fetch_in}
