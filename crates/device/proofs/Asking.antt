@@ -1,7 +1,6 @@
 -- A device asked and stepped through the words that it was packed into; one that does not pack is a broken image. Assumes nothing.
-use mathlib.Core.Path.{◌≡◌, refl, sym, ap, ap₂, ◌∙◌}
+use mathlib.Core.Path.{◌≡◌, refl, ap₂, ◌∙◌}
 use mathlib.Core.Bool.{Bool, true, false, cond, ◌&&◌}
-use mathlib.Core.List.{List}
 use Prim.Native.Nat.{ℕ, ◌<◌}
 use borrow.Author.Tests.{lt-ltb}
 use lib.Dec.{ltb}
@@ -10,23 +9,9 @@ use Rattle.device_rules.specs.Device.{State, out}
 use Rattle.device_rules.specs.Refusals.{image_fits, stepped}
 use Rattle.device_rules.specs.declared.Answer.TheVariants.{Refused}
 use Rattle.device_rules.proofs.Images.{broken}
-use Rattle.words_state.specs.Packed.{state_in}
-use Rattle.words_images.specs.Images.{Packs}
 use Rattle.device.specs.Held.{fits_in, stepped_in}
 use Rattle.device.specs.Held as held
 use Rattle.device.specs.declared.Device.{Device}
-
-module _ {d : Device} {fits : Bool} {v w : List ℕ} (p : Packs d.part (held.state_in d) fits v w) where
-  pub no_image : fits ≡ false → fits_in d ≡ false
-  no_image e = sym p.judged ∙ e
-
-  -- what the words answer is the image's answer, where a broken image's tells nothing of its state
-  pub asked : {A : Type 0} (answer : Bool → State → A) → ((s t : State) → answer false s ≡ answer false t) → {a : A} → a ≡ answer fits (state_in (part_of d.part) w) → a ≡ answer (fits_in d) (held.state_in d)
-  asked answer alike e = e ∙ go fits refl ∙ ap (λ (t : Bool). answer t (held.state_in d)) p.judged
-    where
-      go : (t : Bool) → fits ≡ t → answer t (state_in (part_of d.part) w) ≡ answer t (held.state_in d)
-      go true z = ap (answer true) (p.packed z).1
-      go false z = alike _ _
 
 -- ---- steps
 -- a broken image, or a part that is none of the two, is refused with 3

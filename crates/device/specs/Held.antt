@@ -1,14 +1,20 @@
 -- The state that a device holds, and what making one and stepping one promise: of either part.
-use Rattle.std.specs.Prelude.{◌≡◌, Bool, cond, ◌&&◌, ℕ, ltb}
+use Rattle.std.specs.Prelude.{◌≡◌, Bool, true, cond, ◌&&◌, List, ℕ, ltb, Result, IfOk}
 use Rattle.map.specs.Map.{part_of}
+use Rattle.map.specs.Chips.{part_at}
+use Rattle.map.specs.declared.Chip.{Chip}
+use Rattle.map.specs.declared.Chip.TheVariants.{Pcal6524, Pcal6534}
 use Rattle.registers.specs.Registers.{core}
 use Rattle.registers.specs.Interrupt.{interrupt}
 use Rattle.device_rules.specs.Device.{State, Outcome, identity, state, out}
 use Rattle.device_rules.specs.Refusals.{image_fits, stepped}
-use Rattle.device_rules.specs.PowerOn.{MadeOf}
+use Rattle.device_rules.specs.PowerOn.{MadeOf, making_refused}
 use Rattle.device_rules.specs.declared.Answer.TheVariants.{Refused}
+use Rattle.device_making.specs.Refused.{refused_by}
+use Rattle.device_making.specs.declared.Refusal.{Refusal}
+use Rattle.words_state.specs.Packed.{Packed}
+use Rattle.words_state.specs.Packed.{state_in as words_state_in}
 use Rattle.device.specs.declared.Device.{Device}
-use Rattle.device.specs.declared.Made.{Made}
 use Rattle.device.specs.declared.Stepped.{Stepped}
 
 -- the state that a device's fields hold: all of it but the part
@@ -28,7 +34,17 @@ pub record Steps (d : Device) (kind arg : ℕ) (s : Stepped) : Type 0 where
   pub outcome : out s.answer (state_in s.device) ≡ stepped_in d kind arg
   pub part_stays : s.device.part ≡ d.part
 
--- a device that is made: of that part, and as the rules have it
-pub record Makes (part choice levels id : ℕ) (m : Made) : Type 0 where
-  pub as_ruled : MadeOf (part_of part) choice levels id m.refusal (state_in m.device)
-  pub part_is : m.device.part ≡ part
+-- the words that an image which may stand is packed into
+abbrev pub Stands : Device → (words : List ℕ) → Type 0
+Stands d w = Packed d.part w × (words_state_in (part_of d.part) w ≡ state_in d) × (fits_in d ≡ true)
+
+-- the number of a part
+abbrev pub number_at : Chip → ℕ
+number_at Pcal6524 = 0
+number_at Pcal6534 = 1
+
+-- making a device: refused as the rules have it; else a device of that part as they have it
+pub record Makes (chip : Chip) (choice levels id : ℕ) (m : Result Device Refusal) : Type 0 where
+  pub refused : refused_by m ≡ making_refused (part_at chip) choice levels id
+  pub as_ruled : IfOk m (λ d. MadeOf (part_at chip) choice levels id 0 (state_in d))
+  pub part_is : IfOk m (λ d. d.part ≡ number_at chip)

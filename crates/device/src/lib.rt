@@ -1,15 +1,16 @@
 // The device by value, of either part, as its callers have it: made, stepped and asked.
 #![tactic(auto)]
 
-ghost use Rattle.std.specs.Prelude.{◌≡◌, ◌*◌, ◌<◌};
-ghost use Rattle.map.specs.Map.{part24, part34, part_of, defaults};
+ghost use Rattle.std.specs.Prelude.{◌≡◌, ◌+◌, ◌*◌, ◌<◌, false, IfOk, IfErr};
+ghost use Rattle.map.specs.Map.{part_of, defaults};
+ghost use Rattle.map.specs.Chips.{part_at};
 ghost use Rattle.words_images.specs.Images.{Packs};
-ghost use Rattle.device.specs.Held.{state_in, Makes, Steps};
+ghost use Rattle.device.specs.Held.{state_in, fits_in, number_at, Stands, Makes, Steps};
 ghost use Rattle.device.specs.Asked.{low_of, high_of, line_of, shown_of};
 
-use device_answers::{Driven, Line, Shown};
+use device_making::Refusal;
 use device_rules::{Answer, BAD_IMAGE, QUIET};
-use map::Chip;
+use map::{Chip, LAST_NUMBER};
 use pins::Sets;
 
 // The parts by their numbers: the one of 24 pins, and its sister of 34.
@@ -40,18 +41,14 @@ pub struct Stepped {
     pub device: Device,
 }
 
-// A refusal's number, 0 for none, and the device; where it was refused, one that every step refuses.
-#[derive(Clone, Copy)]
-pub struct Made {
-    pub refusal: u8,
-    pub device: Device,
-}
-
-// A byte of an image as the words have it.
-fn wide(byte: u8) -> u64
-    ensures { result ≡ byte }
+// The number of a part, as an image has it.
+fn number_of(chip: Chip) -> u8
+    ensures { (result ≡ number_at chip) × (result < 2) × (part_of result ≡ part_at chip) }
 {
-    byte as u64
+    match chip {
+        Chip::Pcal6524 => PART24,
+        Chip::Pcal6534 => PART34,
+    }
 }
 
 impl Device {
@@ -61,60 +58,37 @@ impl Device {
     // and a plan of the sister
     pub const WRITE_BOUND34: usize = device_rooms::WRITE_BOUND34;
 
-    // How many bytes a buffer has at least that has room for every plan.
-    pub fn plan_room() -> usize
-        ensures room { result ≡ 32 }
-        ensures bound { result ≡ 2 * Device.WRITE_BOUND }
+    // How many bytes a buffer has at least that has room for every plan of the part.
+    pub fn plan_room(chip: Chip) -> usize
+        ensures room { result ≡ 2 * (5 * (part_at chip).ports + 1) }
+        ensures bound { chip ≡ Chip.Pcal6524 → result ≡ 2 * Device.WRITE_BOUND }
+        ensures bound34 { chip ≡ Chip.Pcal6534 → result ≡ 2 * Device.WRITE_BOUND34 }
     {
-        device_rooms::plan_room(Chip::Pcal6524)
-    }
-
-    // And for every plan of the sister.
-    pub fn plan_room34() -> usize
-        ensures room { result ≡ 52 }
-        ensures bound { result ≡ 2 * Device.WRITE_BOUND34 }
-    {
-        device_rooms::plan_room(Chip::Pcal6534)
+        device_rooms::plan_room(chip)
     }
 
     // The register file of the part after any reset.
-    fn file_at_reset(part: u8) -> [u8; 128]
-        requires { part < 2 }
-        ensures { result ≡ defaults (part_of part) }
+    pub fn reset_values(chip: Chip) -> [u8; 128]
+        ensures { result ≡ defaults (part_at chip) }
     {
+        let part = u64::from(number_of(chip));
         let mut words = [0u64; 28];
-        words_device::power_on(&mut words, part as u64, 0, 0, 0);
+        words_device::power_on(&mut words, part, 0, 0, 0);
         let mut file = [0u8; 128];
-        words_files::to_file(&words, part as u64, &mut file);
+        words_files::to_file(&words, part, &mut file);
         file
     }
 
-    // The register file after any reset.
-    pub fn reset_values() -> [u8; 128]
-        ensures { result ≡ defaults part24 }
+    // A device of the part at power-on, at this address choice, with these levels and this Device ID.
+    pub fn power_on(chip: Chip, choice: u8, levels: u64, number: u64) -> Result<Device, Refusal>
+        ensures { Makes chip choice levels number result }
     {
-        Self::file_at_reset(PART24)
-    }
-
-    // And the sister's.
-    pub fn reset_values34() -> [u8; 128]
-        ensures { result ≡ defaults part34 }
-    {
-        Self::file_at_reset(PART34)
-    }
-
-    // A device of the part at power-on.
-    fn at_power_on(part: u8, choice: u8, levels: u64, number: u64) -> Made
-        requires { part < 2 }
-        ensures { Makes part choice levels number result }
-    {
-        let refusal = device_making::refusal(part as u64, choice as u32, levels, number);
-        let file = Self::file_at_reset(part);
-        let sets = device_making::pins_at(levels);
-        let device = Device {
+        let part = number_of(chip);
+        device_making::allows(u64::from(part), u32::from(choice), levels, number)?;
+        Ok(Device {
             part,
-            file,
-            sets,
+            file: Self::reset_values(chip),
+            sets: device_making::pins_at(levels),
             pointer: 0,
             bus: 0,
             choice,
@@ -123,50 +97,39 @@ impl Device {
             mode: 0,
             number,
             place: 0,
-        };
-        Made { refusal, device }
-    }
-
-    // A device at power-on, at this address choice, with these levels and this Device ID.
-    pub fn power_on(choice: u8, levels: u64, number: u64) -> Made
-        ensures { Makes 0 choice levels number result }
-    {
-        Self::at_power_on(PART24, choice, levels, number)
-    }
-
-    // And its sister.
-    pub fn power_on34(choice: u8, levels: u64, number: u64) -> Made
-        ensures { Makes 1 choice levels number result }
-    {
-        Self::at_power_on(PART34, choice, levels, number)
+        })
     }
 
     // The words of the image, if it may stand: what refusal 3 asks.
     pub fn pack(self, words: &mut [u64; 28]) -> bool
         ensures { Packs self.part (state_in self) result words.old words.new }
     {
-        let part = wide(self.part);
-        let file = self.file;
-        let pointer = wide(self.pointer);
-        let bus = wide(self.bus);
-        let choice = wide(self.choice);
-        let line = wide(self.line);
-        let mode = wide(self.mode);
-        let place = wide(self.place);
         words_images::pack(
             words,
-            part,
-            &file,
+            u64::from(self.part),
+            &self.file,
             self.sets,
-            pointer,
-            bus,
-            choice,
+            u64::from(self.pointer),
+            u64::from(self.bus),
+            u64::from(self.choice),
             self.status,
-            line,
-            mode,
+            u64::from(self.line),
+            u64::from(self.mode),
             self.number,
-            place,
+            u64::from(self.place),
         )
+    }
+
+    // The words of the image, or that it may not stand.
+    fn words(self) -> Result<[u64; 28], Refusal>
+        ensures stands { IfOk result (λ w. Stands self w) }
+        ensures refused { IfErr result (λ e. (e ≡ Refusal.BadImage) × (fits_in self ≡ false)) }
+    {
+        let mut words = [0u64; 28];
+        if self.pack(&mut words) {
+            return Ok(words);
+        }
+        Err(Refusal::BadImage)
     }
 
     // One event: the image is packed, the words are stepped, and what they hold then is unpacked.
@@ -183,11 +146,10 @@ impl Device {
         let answer = words_device::event(&mut words, kind, arg);
         let mut file = self.file;
         let after = words_images::unpack(&words, &mut file);
-        let sets = after.sets;
         let device = Device {
             part: self.part,
             file,
-            sets,
+            sets: after.sets,
             pointer: after.pointer,
             bus: after.bus,
             choice: after.choice,
@@ -201,38 +163,41 @@ impl Device {
     }
 
     // The pins driven low.
-    pub fn low(self) -> Driven
+    pub fn low(self) -> Result<u64, Refusal>
         ensures { result ≡ low_of self }
     {
-        let mut words = [0u64; 28];
-        let fits = self.pack(&mut words);
-        device_answers::low(fits, &words, self.part as u64)
+        let words = self.words()?;
+        Ok(words_views::low(&words, map::pins_of(u64::from(self.part))))
     }
 
     // The pins driven high.
-    pub fn high(self) -> Driven
+    pub fn high(self) -> Result<u64, Refusal>
         ensures { result ≡ high_of self }
     {
-        let mut words = [0u64; 28];
-        let fits = self.pack(&mut words);
-        device_answers::high(fits, &words)
+        let words = self.words()?;
+        Ok(words_views::high(&words))
     }
 
-    // Whether INT is asserted; refused, it counts as asserted.
-    pub fn int(self) -> Line
+    // Whether INT is asserted.
+    pub fn int(self) -> Result<bool, Refusal>
         ensures { result ≡ line_of self }
     {
-        let mut words = [0u64; 28];
-        let fits = self.pack(&mut words);
-        device_answers::int(fits, &words)
+        let kept = self.words()?;
+        Ok(words_interrupt::int(&kept))
     }
 
     // The byte that a fetch of register n would show: input port bytes, status bytes and all others.
-    pub fn show(self, n: u8) -> Shown
+    pub fn show(self, n: u8) -> Result<u8, Refusal>
         ensures { result ≡ shown_of self n }
     {
-        let mut words = [0u64; 28];
-        let fits = self.pack(&mut words);
-        device_answers::show(fits, &words, self.part as u64, n)
+        let words = self.words()?;
+        if LAST_NUMBER < n {
+            return Err(Refusal::BadArgument);
+        }
+        let row = words_tables::row_of(u64::from(self.part), u64::from(n));
+        if row == 0 {
+            return Err(Refusal::BadArgument);
+        }
+        Ok(words_views::show(&words, row))
     }
 }

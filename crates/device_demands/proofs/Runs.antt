@@ -1,13 +1,17 @@
 -- Runs from power-on: never refused for the image, on every lawful part, and the code's run is the specification's. Assumes nothing.
-use mathlib.Core.Path.{◌≡◌, refl, ap, ap₂, ◌∙◌}
+use mathlib.Core.Path.{◌≡◌, refl, sym, ap, ap₂, ◌∙◌}
+use Rattle.std.specs.Prelude.{Result, Ok, Err, IfOk}
 use mathlib.Core.Bool.{Bool, true, false, cond, not, ◌&&◌}
 use mathlib.Core.List.{List, [], ◌∷◌, ◌++◌}
-use Prim.Native.Nat.{ℕ, zero, suc, ◌+◌, ◌%◌, ◌^◌, ◌<◌}
+use Prim.Native.Nat.{ℕ, ◌+◌, ◌%◌, ◌^◌, ◌<◌}
 use native.Mathlib.Omega.{arith}
 use borrow.Author.Tests.{lt-ltb}
 use lib.Dec.{eqb, ltb, leb}
 use Rattle.bits.proofs.Decide.{clash, either_arm}
 use Rattle.map.specs.Map.{Part, part_of, reserved}
+use Rattle.map.specs.Chips.{part_at}
+use Rattle.map.specs.declared.Chip.{Chip}
+use Rattle.map.specs.declared.Chip.TheVariants.{Pcal6524, Pcal6534}
 use Rattle.registers.specs.Registers.{driven_low, driven_high, int_asserted}
 use Rattle.registers.proofs.Lawful.{Lawful, lawful}
 use Rattle.device_rules.specs.Device.{State, Event, Bus, Outcome, bus_at, out, address_byte, ours, addressed, byte_in, fetch_in, step}
@@ -17,12 +21,16 @@ use Rattle.device_rules.specs.Device.Event.{Start, Stop, HardwareReset, ByteSent
 use Rattle.device_rules.specs.Answers.{answer_kind, refusal_number}
 use Rattle.device_rules.specs.declared.Answer.{Answer}
 use Rattle.device_rules.specs.declared.Answer.TheVariants.{Nothing, Ack, Nak, Byte, Refused}
-use Rattle.device_rules.specs.PowerOn.{power_on}
-use Rattle.device_answers.specs.Questions.{driven, line}
-use Rattle.device.specs.Held.{state_in, fits_in, Makes}
+use Rattle.device_rules.specs.PowerOn.{power_on, making_refused, MadeOf}
+use Rattle.device_rules.proofs.Making.{none_over}
+use Rattle.device_making.specs.Refused.{refused_by}
+use Rattle.device_making.proofs.Unrefused.{numbered}
+use Rattle.device_making.specs.declared.Refusal.{Refusal}
+use Rattle.device_making.specs.declared.Refusal.TheVariants.{BadImage}
+use Rattle.device.specs.Held.{state_in, fits_in}
 use Rattle.device.proofs.Asking.{ruled}
 use Rattle.device.specs.declared.Device.{Device}
-use Rattle.device_demands.specs.Run.{Asked, seen, seen_from, run, answers, Functions, making, Said, said, said_from, run_with, unrefused, Represented, Askable, Contracts}
+use Rattle.device_demands.specs.Run.{Asked, seen, seen_from, run, answers, Functions, Said, said, said_from, run_on, run_with, unrefused, Represented, Askable, Contracts}
 use Rattle.device_demands.proofs.Keeps.{WellFormed, image_of, stepped_keeps, power_on_fits}
 
 -- ---- a step answers, and does not refuse
@@ -111,19 +119,8 @@ pub never_refused_for_image : (p : Part) → Lawful p → (choice levels id : �
     → none_broken (answers p (power_on p choice levels id) es) ≡ true
 never_refused_for_image p ok choice levels id hc hl hi es = run_unbroken p ok (power_on p choice levels id) (power_on_fits p ok choice levels id hc hl hi) es
 
--- ---- any functions with the contracts of `Device::power_on`, `power_on34`, `step`, `low`, `high` and `int`, as the code has them, say of both parts from
+-- ---- any functions with the contracts of `Device::power_on`, `step`, `low`, `high` and `int`, as the code has them, say of both parts from
 -- power-on on what the rules' run sees, and none of the questions is ever refused
-made : (f : Functions) → Contracts f → (part : ℕ) → part < 2 → (choice levels id : ℕ) → choice < 2 ^ 8 → levels < 2 ^ 64 → id < 2 ^ 64
-    → Makes part choice levels id (making f part choice levels id) × Represented (making f part choice levels id).device
-made f c zero known = c.power_on
-made f c (suc zero) known = c.power_on34
-made f c (suc (suc n)) known = absurd (omega arith)
-
--- its levels fit a word of the code
-fits_word : (part levels : ℕ) → levels < 2 ^ (part_of part).width → levels < 2 ^ 64
-fits_word zero levels h = omega (arith, h)
-fits_word (suc n) levels h = omega (arith, h)
-
 -- a device of the part that holds the state s
 record Is (part : ℕ) (s : State) (d : Device) : Type 0 where
   represented : Represented d
@@ -143,9 +140,9 @@ module _ (f : Functions) (c : Contracts f) (part : ℕ) (known : part < 2) where
   said_seen : (s : State) → WellFormed p s → (d : Device) → Is part s d → (answer : Answer) → said f answer d ∷ [] ≡ unrefused (seen p (out answer s) ∷ [])
   said_seen s w d is answer =
       let r = is.represented in
-      let low = c.low d r ∙ told (λ q x. driven 0 (driven_low (part_of q) x.regs)) (driven 3 0) s w d is in
-      let high = c.high d r ∙ told (λ q x. driven 0 (driven_high (part_of q) x.regs)) (driven 3 0) s w d is in
-      let int = c.int d r ∙ told (λ q x. line 0 (int_asserted (part_of q) x.regs)) (line 3 true) s w d is in
+      let low = c.low d r ∙ told {A = Result ℕ Refusal} (λ q x. Ok (driven_low (part_of q) x.regs)) (Err BadImage) s w d is in
+      let high = c.high d r ∙ told {A = Result ℕ Refusal} (λ q x. Ok (driven_high (part_of q) x.regs)) (Err BadImage) s w d is in
+      let int = c.int d r ∙ told {A = Result Bool Refusal} (λ q x. Ok (int_asserted (part_of q) x.regs)) (Err BadImage) s w d is in
       λ j. record { answer = answer; low = low j; high = high j; int = int j } ∷ []
 
   follows : (s : State) → WellFormed p s → (d : Device) → Is part s d → (es : List Asked) → Askable es → said_from f d es ≡ unrefused (seen_from p s es)
@@ -163,12 +160,22 @@ module _ (f : Functions) (c : Contracts f) (part : ℕ) (known : part < 2) where
       (said_seen next kept o.device is' o.answer ∙ ap (λ (a : Answer). unrefused (seen p (out a next) ∷ [])) (ap (λ (o : Outcome). o.answer) same))
       (follows next kept o.device is' es a.2)
 
-  pub run_follows : (choice levels id : ℕ) → choice < 4 → levels < 2 ^ p.width → id < 2 ^ 24 → (es : List Asked) → Askable es
-      → run_with f part choice levels id es ≡ unrefused (run p choice levels id es)
-  run_follows choice levels id hc hl hi es a =
-      let m = made f c part known choice levels id (omega (arith, hc)) (fits_word part levels hl) (omega (arith, hi)) in
-      let d = (making f part choice levels id).device in
+  begun : (choice levels id : ℕ) → choice < 4 → levels < 2 ^ p.width → id < 2 ^ 24 → (es : List Asked) → Askable es → (m : Result Device Refusal)
+      → refused_by m ≡ making_refused p choice levels id → IfOk m (λ d. MadeOf p choice levels id 0 (state_in d)) → IfOk m (λ d. d.part ≡ part) → IfOk m Represented
+      → run_on f m es ≡ Ok (unrefused (run p choice levels id es))
+  begun choice levels id hc hl hi es a (Ok d) refused made its represented =
       let s = power_on p choice levels id in
       let w = power_on_fits p (lawful part) choice levels id hc hl hi in
-      let is : Is part s d = record { represented = m.1; of_part = m.0.part_is; holds = m.0.as_ruled.made } in
-      ap₂ (λ (x xs : List Said). x ++ xs) (said_seen s w d is Nothing) (follows s w d is es a)
+      let is : Is part s d = record { represented = represented; of_part = its; holds = made.made } in
+      ap {A = List Said} {B = Result (List Said) Refusal} Ok (ap₂ (λ (x xs : List Said). x ++ xs) (said_seen s w d is Nothing) (follows s w d is es a))
+  begun choice levels id hc hl hi es a (Err e) refused made its represented = absurd (numbered e (refused ∙ sym (none_over p choice levels id hc hl hi)))
+
+module _ (f : Functions) (c : Contracts f) where
+  pub run_follows : (chip : Chip) (choice levels id : ℕ) → choice < 4 → levels < 2 ^ (part_at chip).width → id < 2 ^ 24 → (es : List Asked) → Askable es
+      → run_with f chip choice levels id es ≡ Ok (unrefused (run (part_at chip) choice levels id es))
+  run_follows Pcal6524 choice levels id hc hl hi es a =
+      let m = c.power_on Pcal6524 choice levels id (omega (arith, hc)) (omega (arith, hl)) (omega (arith, hi)) in
+      begun f c 0 (omega arith) choice levels id hc hl hi es a (f.power_on Pcal6524 choice levels id) m.0.refused m.0.as_ruled m.0.part_is m.1
+  run_follows Pcal6534 choice levels id hc hl hi es a =
+      let m = c.power_on Pcal6534 choice levels id (omega (arith, hc)) (omega (arith, hl)) (omega (arith, hi)) in
+      begun f c 1 (omega arith) choice levels id hc hl hi es a (f.power_on Pcal6534 choice levels id) m.0.refused m.0.as_ruled m.0.part_is m.1

@@ -1,19 +1,17 @@
 -- Runs from power-on: any list of events, each given by its kind and argument, and what is seen at power-on and after each of them.
-use Rattle.std.specs.Prelude.{◌≡◌, Bool, List, [], ◌∷◌, ℕ, zero, suc, ◌^◌, ◌<◌, length, get_or}
+use Rattle.std.specs.Prelude.{◌≡◌, Bool, List, [], ◌∷◌, ℕ, ◌^◌, ◌<◌, length, get_or, Result, Ok, Err, IfOk}
 use Rattle.map.specs.Map.{Part}
+use Rattle.map.specs.declared.Chip.{Chip}
 use Rattle.registers.specs.Registers.{driven_low, driven_high, int_asserted}
 use Rattle.device_rules.specs.Device.{State, Outcome, out}
 use Rattle.device_rules.specs.Refusals.{stepped}
 use Rattle.device_rules.specs.PowerOn.{power_on}
 use Rattle.device_rules.specs.declared.Answer.{Answer}
 use Rattle.device_rules.specs.declared.Answer.TheVariants.{Nothing}
-use Rattle.device_answers.specs.Questions.{driven, line}
-use Rattle.device_answers.specs.declared.Driven.{Driven}
-use Rattle.device_answers.specs.declared.Line.{Line}
+use Rattle.device_making.specs.declared.Refusal.{Refusal}
 use Rattle.device.specs.Held.{Makes, Steps}
 use Rattle.device.specs.Asked.{low_of, high_of, line_of}
 use Rattle.device.specs.declared.Device.{Device}
-use Rattle.device.specs.declared.Made.{Made}
 use Rattle.device.specs.declared.Stepped.{Stepped}
 
 pub record Asked : Type 0 where
@@ -52,24 +50,22 @@ answers p s (e ∷ es) = (stepped p s e.kind e.arg).answer ∷ answers p (steppe
 -- ---- the same run on the code's own device
 -- the functions of `Device`, each with its result for its arguments
 pub record Functions : Type 0 where
-  pub power_on : (choice levels id : ℕ) → Made
-  pub power_on34 : (choice levels id : ℕ) → Made
+  pub power_on : Chip → (choice levels id : ℕ) → Result Device Refusal
   pub step : Device → (kind arg : ℕ) → Stepped
-  pub low : Device → Driven
-  pub high : Device → Driven
-  pub int : Device → Line
+  pub low : Device → Result ℕ Refusal
+  pub high : Device → Result ℕ Refusal
+  pub int : Device → Result Bool Refusal
 
--- the function that makes a device of that part
-abbrev pub making : Functions → (part choice levels id : ℕ) → Made
-making f zero choice levels id = f.power_on choice levels id
-making f (suc n) choice levels id = f.power_on34 choice levels id
+-- making a device of that part
+abbrev pub making : Functions → (chip : Chip) → (choice levels id : ℕ) → Result Device Refusal
+making f chip choice levels id = f.power_on chip choice levels id
 
--- what the code says: the answer, and to the three questions a refusal's number and the value
+-- what the code says: the answer, and to the three questions a value or a refusal
 pub record Said : Type 0 where
   pub answer : Answer
-  pub low : Driven
-  pub high : Driven
-  pub int : Line
+  pub low : Result ℕ Refusal
+  pub high : Result ℕ Refusal
+  pub int : Result Bool Refusal
 
 abbrev pub said : Functions → Answer → Device → Said
 said f answer d = record { answer = answer; low = f.low d; high = f.high d; int = f.int d }
@@ -78,13 +74,18 @@ unfoldable pub said_from : Functions → Device → List Asked → List Said
 said_from f d [] = []
 said_from f d (e ∷ es) = said f (f.step d e.kind e.arg).answer (f.step d e.kind e.arg).device ∷ said_from f (f.step d e.kind e.arg).device es
 
-abbrev pub run_with : Functions → (part choice levels id : ℕ) → List Asked → List Said
-run_with f part choice levels id es = said f Nothing (making f part choice levels id).device ∷ said_from f (making f part choice levels id).device es
+-- from a device that was made on; where none was made, why
+abbrev pub run_on : Functions → Result Device Refusal → List Asked → Result (List Said) Refusal
+run_on f (Ok d) es = Ok (said f Nothing d ∷ said_from f d es)
+run_on f (Err e) es = Err e
+
+abbrev pub run_with : Functions → (chip : Chip) → (choice levels id : ℕ) → List Asked → Result (List Said) Refusal
+run_with f chip choice levels id es = run_on f (making f chip choice levels id) es
 
 -- what is seen, said with no refusal
 abbrev pub unrefused : List Seen → List Said
 unrefused [] = []
-unrefused (x ∷ xs) = record { answer = x.answer; low = driven 0 x.low; high = driven 0 x.high; int = line 0 x.int } ∷ unrefused xs
+unrefused (x ∷ xs) = record { answer = x.answer; low = Ok x.low; high = Ok x.high; int = Ok x.int } ∷ unrefused xs
 
 -- ---- what the code's types hold
 -- a device: 128 bytes, five pin sets and a Device ID of 64 bits, seven bytes
@@ -112,10 +113,8 @@ Askable (e ∷ es) = (e.kind < 2 ^ 32) × (e.arg < 2 ^ 64) × Askable es
 
 -- the contracts as the code has them: of arguments that its types hold, and with results that they hold
 pub record Contracts (f : Functions) : Type 0 where
-  pub power_on : (choice levels id : ℕ) → choice < 2 ^ 8 → levels < 2 ^ 64 → id < 2 ^ 64
-      → Makes 0 choice levels id (f.power_on choice levels id) × Represented (f.power_on choice levels id).device
-  pub power_on34 : (choice levels id : ℕ) → choice < 2 ^ 8 → levels < 2 ^ 64 → id < 2 ^ 64
-      → Makes 1 choice levels id (f.power_on34 choice levels id) × Represented (f.power_on34 choice levels id).device
+  pub power_on : (chip : Chip) (choice levels id : ℕ) → choice < 2 ^ 8 → levels < 2 ^ 64 → id < 2 ^ 64
+      → Makes chip choice levels id (f.power_on chip choice levels id) × IfOk (f.power_on chip choice levels id) Represented
   pub step : (d : Device) → Represented d → (kind arg : ℕ) → kind < 2 ^ 32 → arg < 2 ^ 64
       → Steps d kind arg (f.step d kind arg) × Represented (f.step d kind arg).device
   pub low : (d : Device) → Represented d → f.low d ≡ low_of d

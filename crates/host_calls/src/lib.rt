@@ -4,7 +4,6 @@
 ghost use Rattle.std.specs.Prelude.{◌<◌};
 ghost use Rattle.host_words.specs.Host.{Told, Made, Seen, Shown, drives_of, int_of};
 
-use device_rules::NONE;
 use host_words::{BAD_ARGUMENT, BAD_IMAGE, DONE};
 
 // The parts by their numbers.
@@ -20,12 +19,13 @@ pub fn power_on(words: &mut [u64; 28], part: u64, choice: u32, levels: u64, numb
     requires { part < 2 }
     ensures { Made part choice levels number result words.old words.new }
 {
-    let refusal = device_making::refusal(part, choice, levels, number);
-    if refusal != NONE {
-        return refusal as u32;
+    match device_making::allows(part, choice, levels, number) {
+        Ok(()) => {
+            words_device::power_on(words, part, (choice % 4) as u8, levels, number);
+            DONE
+        }
+        Err(refusal) => u32::from(refusal.number()),
     }
-    words_device::power_on(words, part, (choice % 4) as u8, levels, number);
-    DONE
 }
 
 // One event.

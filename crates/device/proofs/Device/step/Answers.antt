@@ -7,13 +7,13 @@ use Rattle.device_rules.specs.Refusals.{stepped}
 use Rattle.words_state.proofs.Standing.{named}
 use Rattle.words_device.proofs.Naming.{obeyed}
 use Rattle.words_images.proofs.Packing.{unpacked}
-use Rattle.device.proofs.Asking.{no_image, not_stepped, ruled}
+use Rattle.device.proofs.Asking.{not_stepped, ruled}
 use Rattle.device.proofs.Device.step.Goals as goal
 
 pub returns-then-not-pack : goal.returns-then-not-pack
 returns-then-not-pack c =
     let x = c.args in
-    record { outcome = not_stepped x.self x.kind x.arg (no_image c.pack.ensures c.if-not-pack.true); part_stays = refl }
+    record { outcome = not_stepped x.self x.kind x.arg (sym c.pack.ensures.judged ∙ c.if-not-pack.true); part_stays = refl }
 
 pub event-answer-requires : goal.event-answer-requires
 event-answer-requires c =
