@@ -4,4 +4,4 @@ use Rattle.host_calls.proofs.step.Goals as goal
 
 pub returns : goal.returns
 returns c =
-    told_of _ _ _ _ _ _ _ _ _ c.step-number.ensures c.tell.ensures.0 c.tell.ensures.1
+    told_of _ _ _ _ _ _ _ _ _ c.step-stepped.ensures c.tell.ensures.0 c.tell.ensures.1

@@ -4,4 +4,4 @@ use Rattle.loss_host.proofs.step.Goals as goal
 
 pub returns : goal.returns
 returns c =
-    marked_told _ _ _ _ _ _ _ _ _ _ _ c.step-number.ensures c.tell.ensures.0 c.tell.ensures.1
+    marked_told _ _ _ _ _ _ _ _ _ _ _ c.step-stepped.ensures c.tell.ensures.0 c.tell.ensures.1
