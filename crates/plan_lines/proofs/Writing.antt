@@ -1,10 +1,9 @@
 -- The text of writes. Assumes nothing.
-use mathlib.Core.Path.{◌≡◌, refl, ◌∙◌}
+use mathlib.Core.Path.{◌≡◌, refl, ap, sym, ◌∙◌}
 use mathlib.Core.List.{List, [], ◌∷◌, ◌++◌}
-use Prim.Native.Nat.{ℕ, ◌+◌, ◌-◌, ◌*◌, ◌<◌, ◌≤◌}
+use Prim.Native.Nat.{ℕ, ◌+◌, ◌*◌, ◌≤◌}
 use native.Mathlib.Omega.{arith}
-use lib.ListN.{length, get_or, take, drop, length-drop}
-use lib.Seq.{take_all}
+use lib.ListN.{length, get_or, length-append}
 use Rattle.text.specs.Text.{hex_text, Wrote}
 use Rattle.text.proofs.Laws.{wrote_as, wrote_both, wrote_nothing, wrote_length}
 use Rattle.plan_lines.specs.Told.{write_text, pairs_text}
@@ -15,11 +14,12 @@ pub write_is : (register value : ℕ) {a b : List ℕ} → a ≡ hex_text 2 regi
 unfolding write_text hex_text
 write_is register value e f = rw (e, f)
 
-pairs_on : (s : List ℕ) → 1 < length s → write_text (get_or s 0 0) (get_or s 1 0) ++ pairs_text (drop 2 s) ≡ pairs_text s
+pairs_on : (pair rest : List ℕ) → length pair ≡ 2 → write_text (get_or pair 0 0) (get_or pair 1 0) ++ pairs_text rest ≡ pairs_text (pair ++ rest)
 unfolding pairs_text
-pairs_on [] h = absurd (omega arith)
-pairs_on (r ∷ []) h = absurd (omega arith)
-pairs_on (r ∷ v ∷ s) h = refl
+pairs_on [] rest h = absurd (omega (arith, h))
+pairs_on (r ∷ []) rest h = absurd (omega (arith, h))
+pairs_on (r ∷ v ∷ []) rest h = refl
+pairs_on (r ∷ v ∷ b ∷ pair) rest h = absurd (omega (arith, h))
 
 pairs_end : (s : List ℕ) → length s ≤ 1 → [] ≡ pairs_text s
 unfolding pairs_text
@@ -34,19 +34,14 @@ pub record Writing (out₀ : List ℕ) (at : ℕ) (pairs out rest : List ℕ) (e
   pub writes : {last : ℕ} {left : List ℕ} → Wrote out end (pairs_text rest) last left → Wrote out₀ at (pairs_text pairs) last left
 
 module _ {out₀ : List ℕ} {at : ℕ} {pairs : List ℕ} where
-  pub writing_start : Writing out₀ at pairs out₀ pairs at
-  writing_start = record { long = refl; fits = omega arith; writes = λ w. w }
-
   module _ {out rest : List ℕ} {end : ℕ} (here : Writing out₀ at pairs out rest end) where
-    pub writing_on : 1 < length rest → {out' : List ℕ} {end' : ℕ} → Wrote out end (write_text (get_or rest 0 0) (get_or rest 1 0)) end' out' × (end' ≡ end + 5)
-        → Writing out₀ at pairs out' (take (length rest - 2) (drop 2 rest)) end'
-    writing_on h (w, e) =
-        let all : take (length rest - 2) (drop 2 rest) ≡ drop 2 rest = take_all (length rest - 2) (drop 2 rest) (omega (arith, length-drop 2 rest)) in
-        rw all (record {
-          long = wrote_length w ∙ here.long;
-          fits = omega (arith, here.fits, length-drop 2 rest, e);
-          writes = λ v. here.writes (wrote_as (pairs_on rest h) (wrote_both w v));
-        })
+    pub writing_on : (pair later : List ℕ) → rest ≡ pair ++ later → length pair ≡ 2 → {out' : List ℕ} {end' : ℕ}
+        → Wrote out end (write_text (get_or pair 0 0) (get_or pair 1 0)) end' out' × (end' ≡ end + 5) → Writing out₀ at pairs out' later end'
+    writing_on pair later r two (w, e) = record {
+      long = wrote_length w ∙ here.long;
+      fits = omega (arith, here.fits, ap length r, length-append pair later, two, e);
+      writes = λ v. here.writes (wrote_as (pairs_on pair later two ∙ ap pairs_text (sym r)) (wrote_both w v));
+    }
 
     pub writing_done : length rest ≤ 1 → Wrote out₀ at (pairs_text pairs) end out × (2 * end ≤ 2 * at + 5 * length pairs)
     writing_done h = (here.writes (wrote_as (pairs_end rest h) (wrote_nothing out end)), omega (arith, here.fits))

@@ -37,11 +37,9 @@ fn put_writes(out: &mut [u8], at: usize, pairs: &[u8]) -> usize
     requires { 2 * at + 5 * length pairs.now ≤ 2 * length out.old }
     ensures { Wrote out.old at (pairs_text pairs.now) result out.new × (2 * result ≤ 2 * at + 5 * length pairs.now) }
 {
-    let mut rest = pairs;
     let mut end = at;
-    while 1 < rest.len() {
-        end = put_write(out, end, rest[0], rest[1]);
-        rest = &rest[2..];
+    for pair in pairs.chunks_exact(2) {
+        end = put_write(out, end, pair[0], pair[1]);
     }
     end
 }

@@ -2,11 +2,11 @@
 use mathlib.Core.Path.{◌≡◌, refl, sym, ap, subst, ◌∙◌}
 use mathlib.Core.Bool.{Bool, true, false, cond, ◌&&◌}
 use mathlib.Core.List.{List, ◌++◌}
-use Prim.Native.Nat.{ℕ, ◌*◌, ◌^◌, ◌≤◌, ◌<◌}
+use Prim.Native.Nat.{ℕ, ◌*◌, ◌/◌, ◌^◌, ◌≤◌, ◌<◌}
 use native.Mathlib.Omega.{arith}
 use borrow.Author.Tests.{ltb-true, ltb-false}
 use lib.Dec.{ltb}
-use lib.ListN.{get_or, length}
+use lib.ListN.{get_or, length, drop}
 use Rattle.std.proofs.Common.{Result, Ok, Err}
 use Rattle.bits.specs.Bits.{bit}
 use Rattle.map.specs.Map.{Part, first_of}
@@ -23,7 +23,7 @@ use Rattle.planner_promise.proofs.Answering.{sound, bad_start, bad_goal, no_room
 use Rattle.planner_promise.proofs.Promising.{promised}
 use Rattle.planner_bytes.specs.Bytes.{pin_in}
 use Rattle.planner_bytes.specs.declared.PinSets.{PinSets}
-use Rattle.planner_pairs.specs.Pairs.{pair_of, Emitted}
+use Rattle.planner_pairs.specs.Pairs.{pair_of}
 use Rattle.planner_settings.specs.Loaded.{Loaded, early}
 use Rattle.planner.specs.Halfway.{Halfway}
 use Rattle.planner.specs.Pairwise.{opens_to, closes_to}
@@ -77,13 +77,13 @@ module _ (p : Part) (ok : Plannable p) (s g before : List ℕ) where
         kept 4 0 before
         (no_way p s g before f.0 f.1 f.2 (stuck_some p ok s g (sound p s f.0) (sound p g f.1) x y lx ly r fits h z))
 
-    pub laid_out : r ≡ 0 → (m : PinSets) → Halfway x y m → (n : ℕ) (rest : List ℕ)
-        → Emitted (closes_to p m y (opens_to p x m p.ports ++ pair_of (first_of p PortKind) (get_or s (2 * p.ports) 0) (get_or g (2 * p.ports) 0)) p.ports) n before rest
-        → Kept 0 n rest
-    laid_out z m q n rest d =
-        kept 0 n rest
-        (planned p s g before f.0 f.1 f.2 (stuck_none p ok s g (sound p s f.0) (sound p g f.1) x y lx ly r fits h z) n rest
-        (planted p ok s g (sound p s f.0) (sound p g f.1) x y m lx ly q n before rest d))
+    pub laid_out : r ≡ 0 → (m : PinSets) → Halfway x y m → (items : List ℕ) (len : ℕ) (rest : List ℕ)
+        → items ≡ closes_to p m y (opens_to p x m p.ports ++ pair_of (first_of p PortKind) (get_or s (2 * p.ports) 0) (get_or g (2 * p.ports) 0)) p.ports
+        → len ≡ length items → rest ≡ items ++ drop len before → Kept 0 (len / 2) rest
+    laid_out z m q items len rest e whole laid =
+        kept 0 (len / 2) rest
+        (planned p s g before f.0 f.1 f.2 (stuck_none p ok s g (sound p s f.0) (sound p g f.1) x y lx ly r fits h z) (len / 2) rest
+        (planted p ok s g (sound p s f.0) (sound p g f.1) x y m lx ly q items len before rest e whole laid))
 
 -- ---- the stuck pins alone
 pub where_formed : (p : Part) (s g : Settings) {r : ℕ} (t : ℕ) → formed p s ≡ true → formed p g ≡ true → r ≡ t → r ≡ cond (formed p s && formed p g) t 0

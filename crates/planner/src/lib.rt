@@ -1,7 +1,7 @@
 // The planner: from a start to a goal for the registers that set direction, output level and output kind, of either part.
 #![tactic(auto)]
 
-ghost use Rattle.std.specs.Prelude.{◌≡◌, cond, ◌&&◌, List, ℕ, ◌+◌, ◌*◌, ◌≤◌, ◌<◌, length};
+ghost use Rattle.std.specs.Prelude.{◌≡◌, cond, ◌&&◌, ℕ, ◌+◌, ◌*◌, ◌≤◌, ◌<◌, length};
 ghost use Rattle.bits.specs.Bits.{tabulate};
 ghost use Rattle.map.specs.Chips.{part_at};
 ghost use Rattle.planner_quiet.specs.Order.{stuck};
@@ -9,12 +9,13 @@ ghost use Rattle.planner_quiet.specs.Quiet.{bits_at};
 ghost use Rattle.planner_promise.specs.Formed.{formed, room_for};
 ghost use Rattle.planner_promise.specs.Answer.{answer_of, Answers};
 ghost use Rattle.planner_promise.specs.Promise.{refusal_of, count_of, Promise};
-ghost use Rattle.planner_pairs.specs.Pairs.{Emitted};
 ghost use Rattle.planner.specs.Halfway.{Halfway};
 ghost use Rattle.planner.specs.Pairwise.{turn_pairs, opens_to, close_pairs, closes_to};
 
+use arrayvec::ArrayVec;
 use map::Chip;
 use planner_bytes::PinSets;
+use planner_pairs::ROOM;
 use planner_promise::Refusal;
 use planner_settings::Layout;
 
@@ -30,71 +31,66 @@ fn middle(s: PinSets, g: PinSets) -> PinSets
     }
 }
 
-// Port k's output and configuration from one pin set to another, behind n writes; how many there are then.
-fn turn_port(chip: Chip, k: u8, a: PinSets, b: PinSets, n: usize, buf: &mut [u8]) -> usize
-    requires { (k < (part_at chip).ports) × (2 * n + 4 ≤ length buf.old) }
-    ensures { ((out before : List ℕ) → Emitted out n before buf.old → Emitted (turn_pairs (part_at chip) a b k out) result before buf.new)
-        × (result ≤ n + 2) }
+// Port k's output and configuration from one pin set to another.
+fn turn_port(chip: Chip, k: u8, a: PinSets, b: PinSets, pairs: &mut ArrayVec<u8, ROOM>)
+    requires { (k < (part_at chip).ports) × (length pairs.old.items + 4 ≤ 52) }
+    ensures { (pairs.new.items ≡ turn_pairs (part_at chip) a b k pairs.old.items)
+        × (length pairs.new.items ≤ length pairs.old.items + 4) }
 {
     let l = Layout::of(chip);
-    let o = planner_pairs::put(
-        buf,
-        n,
+    planner_pairs::put(
+        pairs,
         l.output + k,
         ports::byte_of(a.output, k),
         ports::byte_of(b.output, k),
     );
     planner_pairs::put(
-        buf,
-        o,
+        pairs,
         l.configuration + k,
         ports::byte_of(a.configuration, k),
         ports::byte_of(b.configuration, k),
-    )
+    );
 }
 
 // Every port to the middle.
-fn open_ports(chip: Chip, s: PinSets, m: PinSets, buf: &mut [u8]) -> usize
-    requires { room_for (part_at chip) ≤ length buf.old }
-    ensures { Emitted (opens_to (part_at chip) s m (part_at chip).ports) result buf.old buf.new × (result ≤ 2 * (part_at chip).ports) }
+fn open_ports(chip: Chip, s: PinSets, m: PinSets) -> ArrayVec<u8, ROOM>
+    ensures { (result.items ≡ opens_to (part_at chip) s m (part_at chip).ports)
+        × (length result.items ≤ 4 * (part_at chip).ports) }
 {
     let ports = Layout::of(chip).ports;
-    let mut n = 0;
+    let mut pairs = ArrayVec::new();
     for k in 0..ports {
-        n = turn_port(chip, k, s, m, n, buf);
+        turn_port(chip, k, s, m, &mut pairs);
     }
-    n
+    pairs
 }
 
 // Port k to the goal: pin kinds, output, configuration.
-fn close_port(chip: Chip, k: u8, m: PinSets, g: PinSets, n: usize, buf: &mut [u8]) -> usize
-    requires { (k < (part_at chip).ports) × (2 * n + 6 ≤ length buf.old) }
-    ensures { ((out before : List ℕ) → Emitted out n before buf.old → Emitted (close_pairs (part_at chip) m g k out) result before buf.new)
-        × (result ≤ n + 3) }
+fn close_port(chip: Chip, k: u8, m: PinSets, g: PinSets, pairs: &mut ArrayVec<u8, ROOM>)
+    requires { (k < (part_at chip).ports) × (length pairs.old.items + 6 ≤ 52) }
+    ensures { (pairs.new.items ≡ close_pairs (part_at chip) m g k pairs.old.items)
+        × (length pairs.new.items ≤ length pairs.old.items + 6) }
 {
     let l = Layout::of(chip);
-    let f = planner_pairs::put(
-        buf,
-        n,
+    planner_pairs::put(
+        pairs,
         l.flip + k,
         ports::byte_of(m.flip, k),
         ports::byte_of(g.flip, k),
     );
-    turn_port(chip, k, m, g, f, buf)
+    turn_port(chip, k, m, g, pairs);
 }
 
 // Every port to the goal, behind the writes that there are.
-fn close_ports(chip: Chip, m: PinSets, g: PinSets, from: usize, buf: &mut [u8]) -> usize
-    requires { (from ≤ 2 * (part_at chip).ports + 1) × (room_for (part_at chip) ≤ length buf.old) }
-    ensures { (out before : List ℕ) → Emitted out from before buf.old
-        → Emitted (closes_to (part_at chip) m g out (part_at chip).ports) result before buf.new }
+fn close_ports(chip: Chip, m: PinSets, g: PinSets, pairs: &mut ArrayVec<u8, ROOM>)
+    requires { length pairs.old.items ≤ 4 * (part_at chip).ports + 2 }
+    ensures { (pairs.new.items ≡ closes_to (part_at chip) m g pairs.old.items (part_at chip).ports)
+        × (length pairs.new.items ≤ room_for (part_at chip)) }
 {
     let ports = Layout::of(chip).ports;
-    let mut n = from;
     for k in 0..ports {
-        n = close_port(chip, k, m, g, n, buf);
+        close_port(chip, k, m, g, pairs);
     }
-    n
 }
 
 // The plan of the part from the start to the goal, at the start of the buffer; how many writes it has.
@@ -109,11 +105,14 @@ pub fn plan(chip: Chip, start: &[u8], goal: &[u8], buf: &mut [u8]) -> Result<usi
         return Err(Refusal::NoQuietWay);
     }
     let m = middle(s, g);
-    let opened = open_ports(chip, s, m, buf);
+    let mut pairs = open_ports(chip, s, m);
     let l = Layout::of(chip);
     let kinds = 2 * l.ports as usize;
-    let turned = planner_pairs::put(buf, opened, l.kind, start[kinds], goal[kinds]);
-    Ok(close_ports(chip, m, g, turned, buf))
+    planner_pairs::put(&mut pairs, l.kind, start[kinds], goal[kinds]);
+    close_ports(chip, m, g, &mut pairs);
+    let len = pairs.len();
+    buf[..len].copy_from_slice(pairs.as_slice());
+    Ok(len / 2)
 }
 
 // The pins that are stuck, for whoever explains why there is no quiet way; none where a start or goal is malformed.
