@@ -1,18 +1,17 @@
--- A piece is its first line and the rest, and what is held of a line that has begun; whatever answers a line. Assumes nothing.
+-- A piece is its first line and the rest; whatever answers a line. Assumes nothing.
 use mathlib.Core.Path.{◌≡◌, refl, ap, sym, ◌∙◌}
 use mathlib.Core.Bool.{Bool, true, false, cond}
 use mathlib.Core.List.{List, [], ◌∷◌, ◌++◌, append_assoc, append-nil}
-use Prim.Native.Nat.{ℕ, suc, ◌+◌, ◌-◌, ◌<◌, ◌≤◌}
-use native.Mathlib.Numerals.{add-one}
+use Prim.Native.Nat.{ℕ, suc, min, ◌+◌, ◌<◌, ◌≤◌}
 use native.Mathlib.Omega.{arith}
-use borrow.Author.Tests.{eq-eqb, ne_eqb, lt-ltb, le-ltb, ltb-true, ltb-false}
-use lib.Dec.{eqb, ltb, leb-suc-suc}
-use lib.ListN.{length, take, drop, length-take, take-append-drop, drop_of_length-le}
-use lib.Seq.{drop-length, take_all, length-take-le}
+use borrow.Author.Tests.{eq-eqb, ne_eqb, ltb-true, ltb-false}
+use lib.Dec.{eqb, ltb}
+use lib.ListN.{length, take, drop, length-take}
+use lib.Seq.{drop-length, take_all, length-take-le, take-append-add}
 use Rattle.text_pieces.specs.Pieces.{newline_at, taken_of}
 use Rattle.text_pieces.proofs.Laws.{take_again}
-use Rattle.text_logs.specs.Lines.{Reply}
-use Rattle.text_logs.specs.Pieces.{Reading, reading, Given, nothing, grown, ended, and_then, given, first_given, overlaid, held_at_end, held_after, at_end}
+use Rattle.text_logs.specs.Lines.{Reply, Says}
+use Rattle.text_logs.specs.Pieces.{Reading, reading, Given, nothing, grown, ended, and_then, given, first_given, at_end}
 
 module _ {X : Type 0} (answer : X → List ℕ → Reply X) where
   grown_twice : (r : Reading X) (s t : List ℕ) → grown (grown r s) t ≡ grown r (s ++ t)
@@ -22,7 +21,7 @@ module _ {X : Type 0} (answer : X → List ℕ → Reply X) where
   grown_small : (r : Reading X) (s : List ℕ) → length (grown r s).begun ≤ 33
   grown_small r s = omega (arith, length-take 33 (r.begun ++ s))
 
-  grown_nothing : (r : Reading X) → length r.begun ≤ 33 → grown r [] ≡ r
+  pub grown_nothing : (r : Reading X) → length r.begun ≤ 33 → grown r [] ≡ r
   grown_nothing r h = ap (λ (x : List ℕ). reading r.session x) (ap (take 33) (append-nil r.begun) ∙ take_all 33 r.begun h)
 
   -- a piece with no newline
@@ -84,46 +83,6 @@ module _ {X : Type 0} (answer : X → List ℕ → Reply X) where
   unfolding at_end
   end_line r some = simp (ne_eqb (length r.begun) 0 some)
 
--- nothing added leaves the held bytes as they are
-pub overlaid_nothing : (held : List ℕ) (len : ℕ) → len ≤ 33 → length held ≡ 33 → overlaid held len [] ≡ held
-unfolding overlaid
-overlaid_nothing held len small whole =
-    let e : take 33 (take len held ++ []) ≡ take len held =
-    ap (take 33) (append-nil (take len held)) ∙ take_all 33 (take len held) (omega (arith, length-take len held)) in
-    ap (λ (s : List ℕ). s ++ drop (length s) held) e
-    ∙ ap (λ (n : ℕ). take len held ++ drop n held) (length-take-le len held (omega arith)) ∙ take-append-drop len held
-
--- the held bytes after a piece, by its first line, whose newline is at n, or by all of a piece with no newline
-module _ (held : List ℕ) (len : ℕ) where
-  abbrev held_by : (n : ℕ) → (part piece : List ℕ) → List ℕ
-  held_by n part piece =
-      cond (ltb n (length piece)) (held_after (held_at_end held len (part ++ take n piece)) 0 [] (drop (suc n) piece)) (overlaid held len (part ++ piece))
-
-  held_first : (part piece : List ℕ) → held_after held len part piece ≡ held_by (newline_at piece) part piece
-  unfolding held_after newline_at
-  held_first part [] = ap (overlaid held len) (sym (append-nil part))
-  held_first part (b ∷ piece) = go (eqb b 0x0a) (held_first (part ++ (b ∷ [])) piece)
-    where
-      go : (t : Bool) → held_after held len (part ++ (b ∷ [])) piece ≡ held_by (newline_at piece) (part ++ (b ∷ [])) piece
-          → cond t (held_after (held_at_end held len part) 0 [] piece) (held_after held len (part ++ (b ∷ [])) piece)
-          ≡ held_by (cond t 0 (suc (newline_at piece))) part (b ∷ piece)
-      go true later = simp (append-nil part, lt-ltb 0 (suc (length piece)) (omega arith))
-      go false later = later ∙ simp (append_assoc part (b ∷ []) piece, append_assoc part (b ∷ []) (take (newline_at piece) piece), leb-suc-suc (suc (newline_at piece)) (length piece))
-
-  module _ (piece : List ℕ) (n : ℕ) (found : n ≡ newline_at piece) {left : List ℕ} where
-    pub none_holds : length piece ≤ n → {end : ℕ} → end ≤ 33 → length left ≡ 33 → left ≡ overlaid held len piece
-        → held_after left end [] (drop n piece) ≡ held_after held len [] piece
-    unfolding held_after
-    none_holds all {end} small whole e =
-        ap (held_after left end []) (drop_of_length-le piece all) ∙ overlaid_nothing left end small whole ∙ e
-        ∙ sym (held_first [] piece ∙ rw (le-ltb (newline_at piece) (length piece) (omega arith)) refl)
-
-    pub line_holds : n < length piece → left ≡ held_at_end held len (take (n - 0) piece) → held_after left 0 [] (drop (n + 1) piece) ≡ held_after held len [] piece
-    line_holds inside e =
-        let m : n - 0 ≡ n = omega arith in
-        ap (λ (x : List ℕ). held_after x 0 [] (drop (n + 1) piece)) (e ∙ ap (λ (k : ℕ). held_at_end held len (take k piece)) m)
-        ∙ sym (held_first [] piece ∙ rw (sym found, lt-ltb n (length piece) inside, add-one n) refl)
-
 -- where no line over 32 bytes says anything, the first 33 bytes of any line say as much as all of it
 pub cut_long : {A : Type 0} (says : List ℕ → A) (none : A) → ((s : List ℕ) → 32 < length s → none ≡ says s) → (s : List ℕ) → says (take 33 s) ≡ says s
 cut_long says none long s = go (ltb 32 (length s)) refl
@@ -133,3 +92,20 @@ cut_long says none long s = go (ltb 32 (length s)) refl
         let l : 32 < length s = ltb-true 32 (length s) e in
         sym (long (take 33 s) (omega (arith, length-take-le 33 s (omega arith)))) ∙ long s l
     go false e = let l : length s ≤ 32 = ltb-false 32 (length s) e in ap says (take_all 33 s (omega arith))
+
+-- as many bytes as there is room for, of a part, are those that grow a line
+pub grown_by : (begun part : List ℕ) (room i : ℕ) → room + length begun ≡ 33 → i ≡ min room (length part) → begun ++ take i part ≡ take 33 (begun ++ part)
+grown_by begun part room i full e = ap (λ (s : List ℕ). begun ++ s) (go (ltb room (length part)) refl) ∙ sym (ap (λ (n : ℕ). take n (begun ++ part)) all ∙ take-append-add begun part room)
+  where
+    all : 33 ≡ length begun + room
+    all = omega arith
+
+    go : (t : Bool) → ltb room (length part) ≡ t → take i part ≡ take room part
+    go true h = let l : room < length part = ltb-true room (length part) h in let k : i ≡ room = omega arith in ap (λ (n : ℕ). take n part) k
+    go false h =
+        let l : length part ≤ room = ltb-false room (length part) h in
+        take_all i part (omega arith) ∙ sym (take_all room part l)
+
+-- what is said may be said in another way
+pub says_as : {X : Type 0} {t u : Reply X} {out : List ℕ} {at end : ℕ} {left : List ℕ} {after : X} → t ≡ u → Says t out at end left after → Says u out at end left after
+says_as e s = rw e at s

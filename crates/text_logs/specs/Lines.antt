@@ -1,10 +1,16 @@
 -- The lines of a text, and the text that answers them, given what answers one line.
-use Rattle.std.specs.Prelude.{cond, List, [], ◌∷◌, ◌++◌, ℕ, eqb}
+use Rattle.std.specs.Prelude.{◌≡◌, cond, List, [], ◌∷◌, ◌++◌, ℕ, eqb}
+use Rattle.text.specs.Text.{Wrote}
 
 -- the line that answers, and what there is after it
 pub record Reply (X : Type 0) : Type 0 where
   pub line : List ℕ
   pub after : X
+
+-- the line written from at on, and what there is after it
+pub record Says {X : Type 0} (t : Reply X) (out : List ℕ) (at end : ℕ) (left : List ℕ) (after : X) : Type 0 where
+  pub says : Wrote out at t.line end left
+  pub goes_on : after ≡ t.after
 
 -- a last line without newline counts if it holds a byte
 abbrev pub last_line : List ℕ → List (List ℕ)

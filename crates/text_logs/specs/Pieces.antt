@@ -1,5 +1,5 @@
 -- A log in pieces: what a piece gives, and what is carried to the next, given what answers one line.
-use Rattle.std.specs.Prelude.{◌≡◌, cond, List, [], ◌∷◌, ◌++◌, ℕ, ◌≤◌, eqb, ltb, length, take, drop}
+use Rattle.std.specs.Prelude.{◌≡◌, cond, List, [], ◌∷◌, ◌++◌, ℕ, ◌≤◌, eqb, ltb, length, take}
 use Rattle.text.specs.Text.{Wrote}
 use Rattle.text_pieces.specs.Pieces.{newline_at}
 use Rattle.text_logs.specs.Lines.{Reply}
@@ -62,30 +62,9 @@ unfoldable pub given_all : {X : Type 0} → (answer : X → List ℕ → Reply X
 given_all answer r [] = nothing r
 given_all answer r (piece ∷ pieces) = and_then (given answer r piece).text (given_all answer (given answer r piece).after pieces)
 
--- ---- the bytes that are held of a line that has begun
--- after a part is added to the first len of them: as much of it as there is room for; the bytes past it stay
-unfoldable pub overlaid : (held : List ℕ) → (len : ℕ) → (part : List ℕ) → List ℕ
-overlaid held len part = let kept : List ℕ = take 33 (take len held ++ part) in kept ++ drop (length kept) held
-
--- after a line that ends with this part of a piece: one that lies whole in the piece is read where it lies, and leaves them alone
-unfoldable pub held_at_end : (held : List ℕ) → (len : ℕ) → (part : List ℕ) → List ℕ
-held_at_end held len part = cond (eqb len 0) held (overlaid held len part)
-
--- after a piece, of which the line that has begun has taken this part so far
-unfoldable pub held_after : (held : List ℕ) → (len : ℕ) → (part piece : List ℕ) → List ℕ
-held_after held len part [] = overlaid held len part
-held_after held len part (b ∷ piece) = cond (eqb b 0x0a) (held_after (held_at_end held len part) 0 [] piece) (held_after held len (part ++ (b ∷ [])) piece)
-
 -- ---- what the code leaves
--- the answers written from at on, and what there is, the held bytes and how many of them count after them
-pub record Gives {X : Type 0} (g : Given X) (out : List ℕ) (at end : ℕ) (left : List ℕ) (session : X) (held : List ℕ) (len : ℕ) : Type 0 where
+-- the answers written from at on, and where the reading stands after them
+pub record Gives {X : Type 0} (g : Given X) (out : List ℕ) (at end : ℕ) (left : List ℕ) (after : Reading X) : Type 0 where
   pub wrote : Wrote out at g.text end left
-  pub goes_on : reading session (take len held) ≡ g.after
-  pub small : len ≤ 33
-  pub whole : length held ≡ 33
-
--- at the end of the log: the last answer written from at on, and what there is after it
-pub record Ends {X : Type 0} (answer : X → List ℕ → Reply X) (r : Reading X) (out : List ℕ) (at end : ℕ) (left : List ℕ) (session : X) : Type 0 where
-  pub wrote : Wrote out at (at_end answer r).text end left
-  pub goes_on : session ≡ (at_end answer r).after.session
-  pub within : end ≤ length left
+  pub goes_on : after ≡ g.after
+  pub small : length after.begun ≤ 33

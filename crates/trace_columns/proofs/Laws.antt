@@ -4,7 +4,7 @@ use mathlib.Core.Bool.{Bool}
 use mathlib.Core.List.{List}
 use Prim.Native.Nat.{ℕ, ◌<◌}
 use lib.Dec.{eqb}
-use lib.ListN.{length, get_or}
+use lib.ListN.{get_or}
 use Rattle.bits.proofs.Laws.{tabulate_ext}
 use Rattle.pins.specs.Pin.{is_low, is_high}
 use Rattle.pins.specs.OnePin.{drive_of}
@@ -18,14 +18,15 @@ use Rattle.words.proofs.Sound.{sound}
 use Rattle.words.proofs.Showing.{one_pin_lem}
 use Rattle.words_state.specs.Packed.{state_in, Packed}
 use Rattle.words_device.specs.Named.{Named}
-use Rattle.words_state.proofs.Standing.{named}
 use Rattle.text.specs.Text.{Wrote}
 use Rattle.text.proofs.Laws.{wrote_as}
 use Rattle.text_answers.specs.Answers.{Keeps, answer_line, shown_line}
 use Rattle.text_answers.proofs.Laws.{told_line}
 use Rattle.trace_columns.specs.Columns.{Told, KeepsOf, Fresh}
+use Rattle.trace_columns.specs.declared.Causes.{Causes}
+use Rattle.trace_columns.specs.declared.Columns.{Columns}
 
-module _ (c : ℕ) (told v w : List ℕ) (tv : Told v told) (tw : Told w told) where
+module _ (c : ℕ) (told : Causes) (v w : List ℕ) (tv : Told v told) (tw : Told w told) where
   drive_same : (i : ℕ) → i < (part_of c).width → drive_of (one_pin (part_of c) (core_in (part_of c) v) i) ≡ drive_of (one_pin (part_of c) (core_in (part_of c) w) i)
   drive_same i l =
       ap drive_of (one_pin_lem (part_of c) (sound c) v i l) ∙ rw (← tv.1, ← tv.2, ← tv.3, ← tv.4, tw.1, tw.2, tw.3, tw.4) refl
@@ -52,17 +53,17 @@ pub keeps_as : (p : Part) (words kept : List ℕ) {int : Bool} {low high : ℕ} 
 keeps_as p words kept k e f g = rw (← e, ← f, ← g) k
 
 -- written anew, the text is of every device that has these words
-pub fresh_anew : (words told kept : List ℕ) → Named words → Told words told → length kept ≡ 22 → KeepsOf (part_of (get_or words 27 0)) words kept → Fresh words told kept
-fresh_anew words told kept k t long keeps = record { long = long; fresh = λ w kw tw. keeps_same (get_or words 27 0) told w words tw t kw k kept keeps }
+pub fresh_anew : (words : List ℕ) (c : Columns) → Named words → Told words c.told → KeepsOf (part_of (get_or words 27 0)) words c.text → Fresh words c
+fresh_anew words c k t keeps w kw tw = keeps_same (get_or words 27 0) c.told w words tw t kw k c.text keeps
 
 -- it stays where the part does
-pub fresh_on : (words words' : List ℕ) → get_or words 27 0 ≡ get_or words' 27 0 → (told kept : List ℕ) → Fresh words told kept → Fresh words' told kept
-fresh_on words words' e told kept b = record { long = b.long; fresh = rw e at b.fresh }
+pub fresh_on : (words words' : List ℕ) → get_or words 27 0 ≡ get_or words' 27 0 → (c : Columns) → Fresh words c → Fresh words' c
+fresh_on words words' e c b = rw e at b
 
 -- a line that is put with the text that is kept is the device's
-pub kept_line : (c : ℕ) {words told kept : List ℕ} (a : Answer) {out₀ : List ℕ} {at end : ℕ} {left : List ℕ} → Packed c words → Fresh words told kept → Told words told
-    → ((int : Bool) (low high : ℕ) → Keeps (part_of (get_or words 27 0)) kept int low high → Wrote out₀ at (answer_line (part_of (get_or words 27 0)) a int low high) end left)
-    → Wrote out₀ at (shown_line (part_of c) (out a (state_in (part_of c) words))) end left
-kept_line c {words} a k b t put =
+pub kept_line : {words : List ℕ} (c : Columns) (a : Answer) {out₀ : List ℕ} {at end : ℕ} {left : List ℕ} → Named words → Fresh words c → Told words c.told
+    → ((int : Bool) (low high : ℕ) → Keeps (part_of (get_or words 27 0)) c.text int low high → Wrote out₀ at (answer_line (part_of (get_or words 27 0)) a int low high) end left)
+    → Wrote out₀ at (shown_line (part_of (get_or words 27 0)) (out a (state_in (part_of (get_or words 27 0)) words))) end left
+kept_line {words} c a k b t put =
     let p : Part = part_of (get_or words 27 0) in
-    wrote_as (told_line p a (state_in p words) _ _ _ refl refl refl ∙ ap (λ (c : ℕ). shown_line (part_of c) (out a (state_in (part_of c) words))) k.part_is) (put _ _ _ (b.fresh words (named c words k) t))
+    wrote_as (told_line p a (state_in p words) _ _ _ refl refl refl) (put _ _ _ (b words k t))

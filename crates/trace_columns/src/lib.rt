@@ -1,56 +1,93 @@
-// The text of the columns, which few events change: kept beside the words with what it was told from, and written anew where one of these words changed.
+// The text of the columns, which few events change: kept with what it was told from, and written anew where one of these words changed.
 #![tactic(auto)]
 
-ghost use Rattle.std.specs.Prelude.{◌≡◌, true};
+ghost use Rattle.std.specs.Prelude.{◌≡◌, ◌+◌, ◌≤◌, length, get_or};
+ghost use Rattle.map.specs.Map.{part_of};
+ghost use Rattle.device_rules.specs.Device.{out as outcome};
+ghost use Rattle.words_state.specs.Packed.{part_word, state_in};
 ghost use Rattle.words_device.specs.Named.{Named};
+ghost use Rattle.text.specs.Text.{Wrote};
+ghost use Rattle.text_answers.specs.Answers.{shown_line};
 ghost use Rattle.trace_columns.specs.Columns.{Told, Fresh};
 
+use device_rules::Answer;
 use words::{CONFIGURATION, LINE, OUTPUT, PART, PIN_KIND, PORT_KIND};
 
-// Whether the words that the columns depend on are what they were when the text was written.
-fn is_told(words: &[u64; 28], told: &[u64; 5]) -> bool
-    ensures { result ≡ true → Told words.now told.now }
-{
-    if told[0] != words[LINE] {
-        return false;
-    }
-    if told[1] != words[CONFIGURATION] {
-        return false;
-    }
-    if told[2] != words[OUTPUT] {
-        return false;
-    }
-    if told[3] != words[PORT_KIND] {
-        return false;
-    }
-    told[4] == words[PIN_KIND]
+// The words that the columns depend on.
+#[derive(Clone, Copy, PartialEq)]
+pub struct Causes {
+    line: u64,
+    configuration: u64,
+    output: u64,
+    port_kind: u64,
+    pin_kind: u64,
 }
 
-// The text of the columns, written anew.
-pub fn refresh(words: &[u64; 28], told: &mut [u64; 5], kept: &mut [u8; 22])
-    requires { Named words.now }
-    ensures { Fresh words.now told.new kept.new × Told words.now told.new }
-{
-    *told = [
-        words[LINE],
-        words[CONFIGURATION],
-        words[OUTPUT],
-        words[PORT_KIND],
-        words[PIN_KIND],
-    ];
-    let int = words_interrupt::int(words);
-    let low = words_views::low(words, map::pins_of(words[PART]));
-    let high = words_views::high(words);
-    text_answers::keep(kept, words[PART], int, low, high);
+impl Causes {
+    // These words as they are.
+    fn of(words: &[u64; 28]) -> Self
+        ensures { Told words.now result }
+    {
+        Causes {
+            line: words[LINE],
+            configuration: words[CONFIGURATION],
+            output: words[OUTPUT],
+            port_kind: words[PORT_KIND],
+            pin_kind: words[PIN_KIND],
+        }
+    }
 }
 
-// The text of the columns, written anew if they changed.
-pub fn renew(words: &[u64; 28], told: &mut [u64; 5], kept: &mut [u8; 22])
-    requires { Named words.now × Fresh words.now told.old kept.old }
-    ensures { Fresh words.now told.new kept.new × Told words.now told.new }
-{
-    if is_told(words, &*told) {
-        return;
+// The text of the columns, and the words that it was told from.
+#[derive(Drop)]
+pub struct Columns {
+    told: Causes,
+    text: [u8; 22],
+}
+
+impl Columns {
+    // Before a device: no text yet.
+    pub fn new() -> Self {
+        Columns {
+            told: Causes {
+                line: 0,
+                configuration: 0,
+                output: 0,
+                port_kind: 0,
+                pin_kind: 0,
+            },
+            text: [0; 22],
+        }
     }
-    refresh(words, told, kept);
+
+    // The text, written anew.
+    pub fn refresh(&mut self, words: &[u64; 28])
+        requires { Named words.now }
+        ensures { Fresh words.now self.new × Told words.now self.new.told }
+    {
+        self.told = Causes::of(words);
+        let int = words_interrupt::int(words);
+        let low = words_views::low(words, map::pins_of(words[PART]));
+        let high = words_views::high(words);
+        text_answers::keep(&mut self.text, words[PART], int, low, high);
+    }
+
+    // The text, written anew if it changed.
+    pub fn renew(&mut self, words: &[u64; 28])
+        requires { Named words.now × Fresh words.now self.old }
+        ensures { Fresh words.now self.new × Told words.now self.new.told }
+    {
+        if self.told == Causes::of(words) {
+            return;
+        }
+        self.refresh(words);
+    }
+
+    // Puts the line of an answer, with the columns of the device in the words, into out from at on, and says where it ends.
+    pub fn put_line(&self, words: &[u64; 28], answer: Answer, out: &mut [u8], at: usize) -> usize
+        requires { Named words.now × Fresh words.now self.now × Told words.now self.now.told × (at + 26 ≤ length out.old) }
+        ensures { Wrote out.old at (shown_line (part_of (get_or words.now part_word 0)) (outcome answer (state_in (part_of (get_or words.now part_word 0)) words.now))) result out.new }
+    {
+        text_answers::put_line(out, at, words[PART], answer, &self.text)
+    }
 }

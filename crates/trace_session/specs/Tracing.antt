@@ -1,20 +1,19 @@
 -- One line in, one line out.
-use Rattle.std.specs.Prelude.{◌≡◌, true, false, cond, List, ℕ, ◌<◌, ltb, get_or}
-use Rattle.map.specs.Map.{Part, part34, part_of, Stepping}
+use Rattle.std.specs.Prelude.{◌≡◌, true, cond, List, [], ℕ, Option, Some, None, ltb, get_or}
+use Rattle.map.specs.Map.{Part, part34, part_of}
 use Rattle.device_rules.specs.Device.{State, Outcome, out}
 use Rattle.device_rules.specs.declared.Answer.TheVariants.{Nothing}
 use Rattle.device_rules.specs.Refusals.{stepped}
 use Rattle.device_rules.specs.PowerOn.{power_on}
-use Rattle.words_rows.specs.Rows.{Rowed}
 use Rattle.words_state.specs.Packed.{part_word, state_in}
 use Rattle.words_device.specs.Named.{Named}
-use Rattle.text.specs.Text.{Wrote}
 use Rattle.text_logs.specs.Lines.{Reply}
 use Rattle.trace_lines.specs.declared.Line.{Line}
 use Rattle.trace_lines.specs.declared.Line.TheVariants.{Device, Event, Unreadable}
 use Rattle.trace_lines.specs.Lines.{line_of}
 use Rattle.text_answers.specs.Answers.{shown_line, refused_line}
-use Rattle.trace_columns.specs.Columns.{Fresh}
+use Rattle.trace_columns.specs.Columns.{Told, Fresh}
+use Rattle.trace_columns.specs.declared.Columns.{Columns}
 
 -- no device yet, or one of this part in this state
 pub data Session : Type 0 where
@@ -29,6 +28,16 @@ session_of w = cond (ltb (get_or w part_word 0) 2) (With (get_or w part_word 0) 
 abbrev pub part_in : Session → Part
 part_in NoDevice = part34
 part_in (With part s) = part_of part
+
+-- the device's part, if there is one
+abbrev pub part_number : Session → Option ℕ
+part_number NoDevice = None
+part_number (With part s) = Some part
+
+-- the line of the device as it stands, where there is one
+abbrev pub standing_line : Session → List ℕ
+standing_line NoDevice = []
+standing_line (With part s) = shown_line (part_of part) (out Nothing s)
 
 abbrev pub Traced : Type 0
 Traced = Reply Session
@@ -55,17 +64,8 @@ answer_to x text = traced x (line_of (part_in x) text)
 abbrev pub Kept : (words : List ℕ) → Type 0
 Kept w = ltb (get_or w part_word 0) 2 ≡ true → Named w
 
--- the tables that are lent beside the words are those of the device's part
-pub record Tables (words rows next : List ℕ) : Type 0 where
-  pub rowed : get_or words part_word 0 < 2 → Rowed (part_of (get_or words part_word 0)) rows
-  pub stepping : get_or words part_word 0 < 2 → Stepping (part_of (get_or words part_word 0)) next
-
-abbrev pub Beside : (words rows next told kept : List ℕ) → Type 0
-Beside words rows next told kept = Tables words rows next × Fresh words told kept
-
--- the line written from at on, and what the words hold after it; where there is still no device, they are as they were
-pub record Says (t : Traced) (words₀ : List ℕ) (out : List ℕ) (at end : ℕ) (left words : List ℕ) : Type 0 where
-  pub says : Wrote out at t.line end left
-  pub goes_on : session_of words ≡ t.after
+-- what a session's words and columns are: a device that the words hold is well formed, and the text is of its columns
+pub record Sound (words : List ℕ) (columns : Columns) : Type 0 where
   pub kept : Kept words
-  pub untouched : ltb (get_or words part_word 0) 2 ≡ false → words ≡ words₀
+  pub fresh : Fresh words columns
+  pub told : ltb (get_or words part_word 0) 2 ≡ true → Told words columns.told
