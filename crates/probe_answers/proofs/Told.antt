@@ -3,7 +3,6 @@ use mathlib.Core.Path.{◌≡◌, refl, ap, sym, ◌∙◌}
 use mathlib.Core.Bool.{Bool, true}
 use mathlib.Core.List.{List, [], ◌∷◌, ◌++◌}
 use Prim.Native.Nat.{ℕ}
-use lib.ListN.{take, drop}
 use types.Run.{OneOf}
 use denote.Enum.Declared.{tag_of}
 use Rattle.device_rules.specs.contracts.Answer.{the_type}
@@ -22,28 +21,7 @@ use Rattle.device.specs.declared.Device.{Device}
 use Rattle.registers.specs.Interrupt.{worked_out}
 use Rattle.words.specs.Words.{core_in, interrupt_in, Fit}
 use Rattle.words_images.specs.Images.{Packs}
-use Rattle.probe_fields.specs.Fields.{widths}
-use Rattle.probe_texts.specs.Texts.{bytes_text, fields_text}
-use Rattle.probe_texts.proofs.Writing.{fields_both}
 use Rattle.probe_answers.specs.Answers.{image_text, probe_line}
-
-pub image_text_lem : (s : State)
-    → 0x09 ∷ bytes_text s.regs.file
-    ++ (fields_text (take 4 (drop 1 widths)) (s.regs.sets.level ∷ s.regs.sets.reference ∷ s.regs.sets.held ∷ s.regs.sets.edge ∷ [])
-    ++ (fields_text (take 3 (drop 5 widths)) (s.pointer ∷ s.bus ∷ s.choice ∷ [])
-    ++ (fields_text (take 2 (drop 8 widths)) (s.interrupt.status ∷ s.interrupt.line ∷ []) ++ fields_text (drop 10 widths) (s.mode ∷ s.id.number ∷ s.id.place ∷ []))))
-    ≡ image_text s
-unfolding image_text
-image_text_lem s =
-    let bus : List ℕ = s.pointer ∷ s.bus ∷ s.choice ∷ [] in
-    let kept : List ℕ = s.interrupt.status ∷ s.interrupt.line ∷ [] in
-    let last : List ℕ = s.mode ∷ s.id.number ∷ s.id.place ∷ [] in
-    let sets : List ℕ = s.regs.sets.level ∷ s.regs.sets.reference ∷ s.regs.sets.held ∷ s.regs.sets.edge ∷ [] in
-    ap (λ (x : List ℕ). 0x09 ∷ bytes_text s.regs.file ++ x)
-    (ap (λ (x : List ℕ). fields_text (take 4 (drop 1 widths)) sets ++ x)
-    (ap (λ (x : List ℕ). fields_text (take 3 (drop 5 widths)) bus ++ x) (fields_both (take 2 (drop 8 widths)) kept (drop 10 widths) last refl)
-    ∙ fields_both (take 3 (drop 5 widths)) bus (drop 8 widths) (kept ++ last) refl)
-    ∙ fields_both (take 4 (drop 1 widths)) sets (drop 5 widths) (bus ++ (kept ++ last)) refl)
 
 -- ---- an answer by the words that the image was packed into: a refusal shows nothing of them
 module _ {d : Device} {fits : Bool} {v w : List ℕ} (k : Packs d.part (state_in d) fits v w) (int : Bool) (low high : ℕ)

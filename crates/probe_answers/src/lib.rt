@@ -18,14 +18,23 @@ fn put_image(out: &mut [u8], at: usize, d: Device) -> usize
     requires { at + 369 ≤ length out.old }
     ensures { Wrote out.old at (image_text (state_in d)) result out.new × (result ≡ at + 369) }
 {
-    let file = d.file;
-    let sets = d.sets;
     let tab = text::put(out, at, b"\t");
-    let bytes = probe_texts::put_bytes(out, tab, &file);
-    let pins = probe_texts::put_sets(out, bytes, sets.level, sets.reference, sets.held, sets.edge);
-    let bus = probe_texts::put_bus(out, pins, d.pointer, d.bus, d.choice);
-    let kept = probe_texts::put_interrupt(out, bus, d.status, d.line);
-    probe_texts::put_last(out, kept, d.mode, d.number, d.place)
+    let bytes = probe_texts::put_bytes(out, tab, &d.file);
+    let numbers = [
+        d.sets.level,
+        d.sets.reference,
+        d.sets.held,
+        d.sets.edge,
+        d.pointer as u64,
+        d.bus as u64,
+        d.choice as u64,
+        d.status,
+        d.line as u64,
+        d.mode as u64,
+        d.number,
+        d.place as u64,
+    ];
+    probe_texts::put_fields(out, bytes, &numbers)
 }
 
 // The text with which a trace tells an answer. A refusal's shows nothing of the device, whose image may be a broken one.

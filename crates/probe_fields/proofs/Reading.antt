@@ -1,6 +1,6 @@
 -- A line has its form if each place holds what the form asks there, and the digits of a field say its number. Assumes nothing.
-use mathlib.Core.Path.{◌≡◌, refl, ap, sym, ◌∙◌}
-use mathlib.Core.Bool.{Bool, true, false, cond, ◌&&◌, ◌||◌, beq}
+use mathlib.Core.Path.{◌≡◌, refl, ap, ◌∙◌}
+use mathlib.Core.Bool.{Bool, true, false, cond, ◌&&◌, beq}
 use mathlib.Core.List.{List, [], ◌∷◌, ◌++◌, append-nil}
 use Prim.Native.Nat.{ℕ, zero, suc, ◌+◌, ◌-◌, ◌*◌, ◌^◌, ◌<◌, ◌≤◌}
 use native.Mathlib.Numerals.{add-one}
@@ -9,9 +9,9 @@ use lib.Dec.{eqb, ltb}
 use lib.ListN.{length, get_or, take, drop, set, drop_of_length-le}
 use lib.Seq.{drop-cons, sets, sets-eq}
 use Rattle.bits.proofs.Decide.{decide_below, beq→eq, and_right, clash}
-use Rattle.text.specs.declared.Digits.{Digits}
-use Rattle.text.specs.declared.Digits.TheVariants.{Number, None}
-use Rattle.text.specs.Text.{digit_of, field_of}
+use Rattle.std.specs.Prelude.{Option, Some, None, unwrap_or}
+use Rattle.std.specs.List.{list_any}
+use Rattle.text.specs.Text.{digit_of, field_of, Small}
 use Rattle.text.proofs.Laws.{field_small}
 use Rattle.probe_fields.specs.Fields.{form, has_form, line_form, readable, number_at, bytes_at}
 
@@ -21,7 +21,7 @@ unfolding form
 form_long = refl
 
 pub tab_places : (i : ℕ) → i < 394
-    → ((((((((((((((eqb i 256) || eqb i 273) || eqb i 290) || eqb i 307) || eqb i 324) || eqb i 327) || eqb i 330) || eqb i 333) || eqb i 350) || eqb i 353) || eqb i 356) || eqb i 365) || eqb i 368) || eqb i 377)
+    → list_any (λ y. eqb y i) (256 ∷ 273 ∷ 290 ∷ 307 ∷ 324 ∷ 327 ∷ 330 ∷ 333 ∷ 350 ∷ 353 ∷ 356 ∷ 365 ∷ 368 ∷ 377 ∷ [])
     ≡ get_or line_form i false
 unfolding form
 tab_places = decide_below Bool beq beq→eq 394 _ _ tt
@@ -63,17 +63,21 @@ unfolding has_form
 form_done line all = rw (drop_of_length-le line_form {i = 394} (omega (arith, form_long)), drop_of_length-le line {i = 394} (omega (arith, all)))
 
 -- ---- numbers
-module _ (line : List ℕ) (at width most : ℕ) (full : most ≡ 16 ^ width - 1) {d : Digits} (read : d ≡ field_of width most (take (at + width - at) (drop at line))) where
+module _ (line : List ℕ) (at width most : ℕ) (full : most ≡ 16 ^ width - 1) {d : Option ℕ} (read : d ≡ field_of width most (take (at + width - at) (drop at line))) where
   field_is : d ≡ field_of width (16 ^ width - 1) (take width (drop at line))
   field_is =
       let e : at + width - at ≡ width = omega arith in
       read ∙ ap (λ (k : ℕ). field_of width most (take k (drop at line))) e ∙ ap (λ (m : ℕ). field_of width m (take width (drop at line))) full
 
-  pub value_none : d ≡ None → 0 ≡ number_at line at width
-  value_none e = rw (← field_is, e)
-
-  pub value_some : {n : ℕ} → d ≡ Number n → (n ≡ number_at line at width) × (n ≤ most)
-  value_some {n} e = (rw (← field_is, e), (field_small width most (take (at + width - at) (drop at line))).small n (sym read ∙ e))
+  pub value_is : {n : ℕ} → n ≡ unwrap_or d 0 → (n ≡ number_at line at width) × (n ≤ most)
+  value_is e = (
+    e ∙ ap (λ (o : Option ℕ). unwrap_or o 0) field_is,
+    rw (e, read) (small_value _ (field_small width most (take (at + width - at) (drop at line)))),
+  )
+    where
+      small_value : (o : Option ℕ) → Small most o → unwrap_or o 0 ≤ most
+      small_value (Some n) s = s.small n refl
+      small_value None s = omega arith
 
 -- ---- bytes
 bytes_long : (line : List ℕ) (at count : ℕ) → length (bytes_at line at count) ≡ count

@@ -10,11 +10,10 @@ use lib.Dec.{eqb, ltb, leb}
 use lib.ListN.{length, get_or, take, drop, replicate, length-replicate, get_or-replicate, length-drop, get_or-append}
 use lib.Seq.{length-take-le, get_or-take, get_or-drop, get_or-append-add}
 use Rattle.bits.proofs.Decide.{decide_below, beq→eq, and_left, and_right, clash}
-use Rattle.text.specs.declared.Digits.{Digits}
-use Rattle.text.specs.declared.Digits.TheVariants.{Number}
+use Rattle.std.specs.Prelude.{Option, Some, unwrap_or}
 use Rattle.text.specs.Text.{digit_of, number_of, field_of}
 use Rattle.text.proofs.Laws.{field_read}
-use Rattle.probe_fields.specs.Fields.{widths, form, has_form, line_form, readable, value_of, number_at, sum, number_in}
+use Rattle.probe_fields.specs.Fields.{widths, form, has_form, line_form, readable, number_at, sum, number_in}
 use Rattle.probe_fields.proofs.Reading.{form_long, readable_long}
 
 -- what the form says of a place
@@ -44,7 +43,7 @@ form_digit (w ∷ ws) (suc k) i hk hi =
 
 -- digits have a number
 digits_say : (s : List ℕ) (n : ℕ) → ((i : ℕ) → i < length s → digit_of (get_or s i 0) < 16)
-    → (number_of n s ≡ Number (value_of (number_of n s))) × (value_of (number_of n s) < (n + 1) * 16 ^ length s)
+    → (number_of n s ≡ Some (unwrap_or (number_of n s) 0)) × (unwrap_or (number_of n s) 0 < (n + 1) * 16 ^ length s)
 unfolding number_of
 digits_say [] n all = (refl, omega arith)
 digits_say (b ∷ s) n all =
@@ -65,8 +64,8 @@ digit_stands k h i l =
 module _ (line : List ℕ) (read : readable line ≡ true) where
   -- so many digits from a place on, where digits stand
   pub digits_number : (at width : ℕ) → at + width ≤ 394 → ((i : ℕ) → i < width → get_or line_form (at + i) false ≡ false)
-      → field_of width (16 ^ width - 1) (take width (drop at line)) ≡ Number (number_at line at width)
-  digits_number at width fits stand = said ∙ ap (λ (d : Digits). Number (value_of d)) (sym said)
+      → field_of width (16 ^ width - 1) (take width (drop at line)) ≡ Some (number_at line at width)
+  digits_number at width fits stand = said ∙ ap (λ (d : Option ℕ). Some (unwrap_or d 0)) (sym said)
     where
       s : List ℕ
       s = take width (drop at line)
@@ -81,19 +80,19 @@ module _ (line : List ℕ) (read : readable line ≡ true) where
           let place = form_at line_form line read (at + i) (omega (arith, form_long)) in
           rw e (ltb-true (digit_of (get_or line (at + i) 0)) 16 (rw (stand i inside) at place))
 
-      small : value_of (number_of 0 s) < (0 + 1) * 16 ^ width
+      small : unwrap_or (number_of 0 s) 0 < (0 + 1) * 16 ^ width
       small = rw long at (digits_say s 0 all).1
 
-      said : field_of width (16 ^ width - 1) s ≡ Number (value_of (number_of 0 s))
+      said : field_of width (16 ^ width - 1) s ≡ Some (unwrap_or (number_of 0 s) 0)
       said = sym (field_read width (16 ^ width - 1) s long (digits_say s 0 all).0 (omega (arith, small)))
 
   -- the theorem: every field says its number
-  pub field_says : (k : ℕ) → k < 15 → field_of (get_or widths k 0) (16 ^ get_or widths k 0 - 1) (take (get_or widths k 0) (drop (sum (take k widths) + k) line)) ≡ Number (number_in line k)
+  pub field_says : (k : ℕ) → k < 15 → field_of (get_or widths k 0) (16 ^ get_or widths k 0 - 1) (take (get_or widths k 0) (drop (sum (take k widths) + k) line)) ≡ Some (number_in line k)
   field_says k h =
       digits_number (sum (take k widths) + k) (get_or widths k 0) (leb-true (sum (take k widths) + k + get_or widths k 0) 394 (field_fits k h)) (λ i l. digit_stands k h i l)
 
   -- and so does every register
-  pub register_says : (n : ℕ) → n < 128 → field_of 2 (16 ^ 2 - 1) (take 2 (drop (2 * n) line)) ≡ Number (number_at line (2 * n) 2)
+  pub register_says : (n : ℕ) → n < 128 → field_of 2 (16 ^ 2 - 1) (take 2 (drop (2 * n) line)) ≡ Some (number_at line (2 * n) 2)
   register_says n h =
       digits_number (2 * n) 2 (omega arith) (λ i l.
       let e : 2 * n + i ≡ 0 + (2 * n + i) = omega arith in

@@ -1,7 +1,5 @@
 -- The fields of a line of the probe program, which is given without its newline.
-use Rattle.std.specs.Prelude.{Bool, true, false, cond, ◌&&◌, List, [], ◌∷◌, ◌++◌, ℕ, zero, suc, ◌+◌, ◌-◌, ◌^◌, eqb, ltb, get_or, take, drop, replicate}
-use Rattle.text.specs.declared.Digits.{Digits}
-use Rattle.text.specs.declared.Digits.TheVariants.{Number, None}
+use Rattle.std.specs.Prelude.{unwrap_or, Bool, true, false, cond, ◌&&◌, List, [], ◌∷◌, ◌++◌, ℕ, zero, suc, ◌+◌, ◌-◌, ◌^◌, eqb, ltb, get_or, take, drop, replicate}
 use Rattle.text.specs.Text.{digit_of, field_of}
 
 -- the digits of each field: registers; level, reference, held, edge; pointer, bus state, address choice; status, line; mode; the Device ID's number and place; an event's kind and argument
@@ -28,13 +26,9 @@ abbrev pub readable : (line : List ℕ) → Bool
 readable line = has_form line_form line
 
 -- ---- the numbers of a readable line, all of whose fields are digits (`field_says`)
-abbrev pub value_of : Digits → ℕ
-value_of (Number n) = n
-value_of None = 0
-
 -- the number of so many digits from a place on
 abbrev pub number_at : (line : List ℕ) → (at width : ℕ) → ℕ
-number_at line at width = value_of (field_of width (16 ^ width - 1) (take width (drop at line)))
+number_at line at width = unwrap_or (field_of width (16 ^ width - 1) (take width (drop at line))) 0
 
 -- so many bytes from a place on, two digits each
 unfoldable pub bytes_at : (line : List ℕ) → (at count : ℕ) → List ℕ

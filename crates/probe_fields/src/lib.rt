@@ -5,8 +5,6 @@ ghost use Rattle.std.specs.Prelude.{◌≡◌, false, cond, ◌+◌, ◌-◌, �
 ghost use Rattle.text.specs.Text.{digit_of};
 ghost use Rattle.probe_fields.specs.Fields.{line_form, readable, number_at, bytes_at};
 
-use text::Digits;
-
 // Where each field of a line begins: the registers first, then a tab before each.
 pub const LEVEL_AT: usize = 257;
 
@@ -36,25 +34,17 @@ pub const KIND_AT: usize = 369;
 
 pub const ARGUMENT_AT: usize = 378;
 
+// The places of the tabs.
+const TABS: [usize; 14] = [
+    256, 273, 290, 307, 324, 327, 330, 333, 350, 353, 356, 365, 368, 377,
+];
+
 // Whether a tab stands at this place of a line.
 fn is_tab(i: usize) -> bool
     requires { i < 394 }
     ensures { result ≡ get_or line_form i false }
 {
-    (i == 256)
-        | (i == 273)
-        | (i == 290)
-        | (i == 307)
-        | (i == 324)
-        | (i == 327)
-        | (i == 330)
-        | (i == 333)
-        | (i == 350)
-        | (i == 353)
-        | (i == 356)
-        | (i == 365)
-        | (i == 368)
-        | (i == 377)
+    TABS.contains(&i)
 }
 
 // Whether the byte is a tab, or a digit.
@@ -74,12 +64,10 @@ pub fn is_readable(line: &[u8]) -> bool
     if line.len() != 394 {
         return false;
     }
-    let mut i = 0;
-    while i < 394 {
+    for i in 0..394 {
         if !byte_fits(is_tab(i), line[i]) {
             return false;
         }
-        i += 1;
     }
     true
 }
@@ -89,12 +77,7 @@ fn number_at(line: &[u8], at: usize, width: usize, most: u64) -> u64
     requires { (at + width ≤ length line.now) × (width ≤ 16) × (most ≡ 16 ^ width - 1) }
     ensures { (result ≡ number_at line.now at width) × (result ≤ most) }
 {
-    let to = at + width;
-    let d = text::field(&line[at..to], width, most);
-    let Digits::Number(n) = d else {
-        return 0;
-    };
-    n
+    text::field(&line[at..at + width], width, most).unwrap_or(0)
 }
 
 // Two digits.
@@ -126,11 +109,9 @@ pub fn file_in(line: &[u8]) -> [u8; 128]
     requires { length line.now ≡ 394 }
     ensures { result ≡ bytes_at line.now 0 128 }
 {
-    let mut file = [0u8; 128];
-    let mut i = 0;
-    while i < 128 {
+    let mut file = [0; 128];
+    for i in 0..128 {
         file[i] = byte_at(line, 2 * i);
-        i += 1;
     }
     file
 }

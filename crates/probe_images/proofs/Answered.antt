@@ -2,7 +2,7 @@
 use mathlib.Core.Path.{◌≡◌, refl, sym, ap, ◌∙◌}
 use mathlib.Core.Bool.{Bool, true, false, ◌&&◌}
 use mathlib.Core.List.{List, ◌++◌}
-use Prim.Native.Nat.{ℕ, ◌+◌, ◌-◌, ◌<◌, ◌≤◌}
+use Prim.Native.Nat.{ℕ, ◌<◌, ◌≤◌}
 use native.Mathlib.Omega.{arith}
 use borrow.Author.Tests.{lt-ltb, ltb-true, ltb-false}
 use lib.Dec.{ltb}
@@ -10,7 +10,7 @@ use lib.ListN.{length, take}
 use lib.Seq.{take_all, length-take-le}
 use Rattle.map.specs.Map.{Part, part_of}
 use Rattle.registers.proofs.Lawful.{lawful}
-use Rattle.device_rules.specs.Device.{Outcome, out}
+use Rattle.device_rules.specs.Device.{Outcome}
 use Rattle.device_rules.specs.Answers.{refusal_number}
 use Rattle.device_rules.specs.Refusals.{image_fits}
 use Rattle.device_rules.proofs.Images.{broken}
@@ -23,7 +23,7 @@ use Rattle.probe_fields.specs.Fields.{bytes_at}
 use Rattle.probe_fields.proofs.Reading.{other_length}
 use Rattle.text_pieces.specs.Pieces.{Kept}
 use Rattle.text_pieces.proofs.Laws.{kept_most, take_again}
-use Rattle.probe_images.specs.declared.Line.{Line}
+use Rattle.probe_images.specs.declared.begun.Line.{Line}
 use Rattle.probe_images.specs.Asked.{Answers}
 use Rattle.probe_images.specs.Begun.{Holds}
 use Rattle.probe_images.specs.Images.{image_in, kind_in, argument_in, probe_text}
@@ -40,18 +40,13 @@ probe_take p text = go (ltb 394 (length text)) refl
     go false e = let l : length text ≤ 394 = ltb-false 394 (length text) e in ap (probe_text p) (take_all 395 text (omega arith))
 
 pub grown_holds : (line : Line) {part left : List ℕ} {end : ℕ} → length line.held ≡ 395 → Kept line.held line.len part end left
-    → (end ≤ 395) × ((text : List ℕ) → Holds line text → Holds (record { held = left; len = end }) (text ++ part))
-grown_holds line {part} all k =
-    let kept = kept_most 395 all k in (
-      kept.1,
-      λ text h. record { small = kept.1; kept = kept.0 ∙ ap (λ (x : List ℕ). take 395 (x ++ part)) h.kept ∙ take_again 395 text part },
-    )
+    → (small : end ≤ 395) (text : List ℕ) → Holds line text → Holds (record { held = left; len = end; small = small }) (text ++ part)
+grown_holds line {part} all k small text h =
+    record { small = small; kept = (kept_most 395 all k).0 ∙ ap (λ (x : List ℕ). take 395 (x ++ part)) h.kept ∙ take_again 395 text part }
 
-pub held_answer : (p : Part) (line : Line) {out left : List ℕ} {at end : ℕ} → Wrote out at (probe_text p (take (line.len - 0) line.held)) end left
+pub held_answer : (p : Part) (line : Line) {out left : List ℕ} {at end : ℕ} → Wrote out at (probe_text p (take line.len line.held)) end left
     → (text : List ℕ) → Holds line text → Wrote out at (probe_text p text) end left
-held_answer p line w text h =
-    let e : line.len - 0 ≡ line.len = omega arith in
-    wrote_as (ap (probe_text p) (ap (λ (k : ℕ). take k line.held) e ∙ h.kept) ∙ probe_take p text) w
+held_answer p line w text h = wrote_as (ap (probe_text p) h.kept ∙ probe_take p text) w
 
 -- a step that is not refused leaves an image that fits
 pub step_fits : (part : ℕ) → part < 2 → (line : List ℕ) {t : Stepped} → Answers part line t → refusal_number t.answer ≡ 0 → fits_in t.device ≡ true

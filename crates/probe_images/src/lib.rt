@@ -1,6 +1,4 @@
-// State images as text, of either part: see specs/ for what a line says and what it is answered.
-// The step that a line of a probe program asks, on the image that it says.
-// A line of a probe program answered, whole or as it comes in pieces.
+// State images as text, of either part: what a line of a probe program says, the step that it asks, and its answer, whole or as it comes in pieces.
 #![tactic(auto)]
 
 ghost use Rattle.std.specs.Prelude.{◌≡◌, List, [], ◌++◌, ◌+◌, ◌≤◌, ◌<◌, ℕ, length};
@@ -11,6 +9,9 @@ ghost use Rattle.probe_images.specs.Images.{image_in, probe_text};
 ghost use Rattle.probe_images.specs.Begun.{Holds};
 ghost use Rattle.probe_images.specs.Asked.{Answers};
 
+mod begun;
+
+pub use begun::Line;
 use device::{Device, Stepped};
 use device_rules::UNREADABLE;
 use pins::Sets;
@@ -66,13 +67,6 @@ pub fn answer_line(part: u8, line: &[u8], out: &mut [u8], at: usize) -> usize
     probe_answers::put_outcome(out, at, after, answer)
 }
 
-// A line that has begun, of which 395 bytes are kept: no longer line is readable.
-#[derive(Clone, Copy)]
-pub struct Line {
-    pub held: [u8; 395],
-    pub len: usize,
-}
-
 // Before the first byte of a line.
 pub fn begin() -> Line
     ensures { Holds result [] }
@@ -85,8 +79,7 @@ pub fn begin() -> Line
 
 // The line with these bytes more.
 pub fn grow(line: Line, part: &[u8]) -> Line
-    requires { line.len ≤ 395 }
-    ensures { (result.len ≤ 395) × ((text : List ℕ) → Holds line text → Holds result (text ++ part.now)) }
+    ensures { (text : List ℕ) → Holds line text → Holds result (text ++ part.now) }
 {
     let mut held = line.held;
     let len = text_pieces::keep(&mut held, line.len, part);
@@ -95,10 +88,8 @@ pub fn grow(line: Line, part: &[u8]) -> Line
 
 // The whole line's answer, written from at on.
 pub fn answer(part: u8, line: Line, out: &mut [u8], at: usize) -> usize
-    requires { (part < 2) × (line.len ≤ 395) × (at + 395 ≤ length out.old) }
+    requires { (part < 2) × (at + 395 ≤ length out.old) }
     ensures { ((text : List ℕ) → Holds line text → Wrote out.old at (probe_text (part_of part) text) result out.new) × (result ≤ at + 395) }
 {
-    let held = line.held;
-    let len = line.len;
-    answer_line(part, &held[0..len], out, at)
+    answer_line(part, &line.held[..line.len], out, at)
 }

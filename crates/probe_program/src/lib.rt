@@ -1,7 +1,7 @@
 // The work of the probe programs: a state image of the part and an event a line on standard input; the answer and the image after it on standard output.
 #![tactic(auto)]
 
-ghost use Rattle.std.specs.Prelude.{◌≡◌, ◌<◌, ◌≤◌, length, IfOk};
+ghost use Rattle.std.specs.Prelude.{◌<◌, ◌≤◌, length, IfOk};
 
 use probe_images::Line;
 use std::io;
@@ -15,7 +15,7 @@ fn make_room(to: &impl Print, out: &[u8], end: usize) -> io::Result<usize>
     if end <= 65_141 {
         return Ok(end);
     }
-    to.write_all(&out[0..end])?;
+    to.write_all(&out[..end])?;
     Ok(0)
 }
 
@@ -25,39 +25,36 @@ fn answer_piece(
     part: u8,
     line: Line,
     piece: &[u8],
-    out: &mut [u8],
+    out: &mut [u8; 65536],
 ) -> io::Result<Line>
-    requires { (part < 2) × (line.len ≤ 395) × (length out.old ≡ 65536) }
-    ensures { IfOk result (λ begun. begun.len ≤ 395) }
+    requires { part < 2 }
 {
     let mut begun = line;
     let mut rest = piece;
     let mut end = 0;
     while 0 < rest.len() {
         let first = text_pieces::first_line(rest);
-        let len = first.len;
-        let taken = first.taken;
-        begun = probe_images::grow(begun, &rest[0..len]);
-        if taken <= len {
-            to.write_all(&out[0..end])?;
+        begun = probe_images::grow(begun, &rest[..first.len]);
+        if first.taken <= first.len {
+            to.write_all(&out[..end])?;
             return Ok(begun);
         }
         let at = make_room(to, &*out, end)?;
         end = probe_images::answer(part, begun, out, at);
         begun = probe_images::begin();
-        rest = &rest[taken..];
+        rest = &rest[first.taken..];
     }
-    to.write_all(&out[0..end])?;
+    to.write_all(&out[..end])?;
     Ok(begun)
 }
 
 // A last line without newline counts if it holds a byte.
-fn answer_last(to: &impl Print, part: u8, line: Line, out: &mut [u8]) -> io::Result<()>
-    requires { (part < 2) × (line.len ≤ 395) × (length out.old ≡ 65536) }
+fn answer_last(to: &impl Print, part: u8, line: Line, out: &mut [u8; 65536]) -> io::Result<()>
+    requires { part < 2 }
 {
     if 0 < line.len {
         let end = probe_images::answer(part, line, out, 0);
-        to.write_all(&out[0..end])?;
+        to.write_all(&out[..end])?;
     }
     Ok(())
 }
@@ -76,7 +73,7 @@ pub fn run(rt: &(impl Input + Print), part: u8) -> io::Result<()>
         if n == 0 {
             return answer_last(rt, part, line, &mut out);
         }
-        line = answer_piece(rt, part, line, &piece[0..n], &mut out)?;
+        line = answer_piece(rt, part, line, &piece[..n], &mut out)?;
     }
     Ok(())
 }

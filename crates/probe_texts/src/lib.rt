@@ -1,7 +1,7 @@
 // The fields of an image, written, as a line of the probe program has them.
 #![tactic(auto)]
 
-ghost use Rattle.std.specs.Prelude.{◌≡◌, [], ◌∷◌, ◌+◌, ◌≤◌, length, take, drop};
+ghost use Rattle.std.specs.Prelude.{◌≡◌, ◌∷◌, ◌+◌, ◌≤◌, length, drop};
 ghost use Rattle.text.specs.Text.{hex_text, Wrote};
 ghost use Rattle.probe_fields.specs.Fields.{widths};
 ghost use Rattle.probe_texts.specs.Texts.{bytes_text, fields_text};
@@ -12,10 +12,8 @@ pub fn put_bytes(out: &mut [u8], at: usize, bytes: &[u8]) -> usize
     ensures { Wrote out.old at (bytes_text bytes.now) result out.new × (result ≡ at + 256) }
 {
     let mut end = at;
-    let mut i = 0;
-    while i < bytes.len() {
-        end = text::put(out, end, &text::hex2(bytes[i]));
-        i += 1;
+    for b in bytes {
+        end = text::put(out, end, &text::hex2(*b));
     }
     end
 }
@@ -29,47 +27,17 @@ fn put_field(out: &mut [u8], at: usize, width: usize, n: u64) -> usize
     text::put_hex(out, end, width, n)
 }
 
-pub fn put_sets(
-    out: &mut [u8],
-    at: usize,
-    level: u64,
-    reference: u64,
-    held: u64,
-    edge: u64,
-) -> usize
-    requires { at + 68 ≤ length out.old }
-    ensures { Wrote out.old at (fields_text (take 4 (drop 1 widths)) (level ∷ reference ∷ held ∷ edge ∷ [])) result out.new × (result ≡ at + 68) }
-{
-    let first = put_field(out, at, 16, level);
-    let second = put_field(out, first, 16, reference);
-    let third = put_field(out, second, 16, held);
-    put_field(out, third, 16, edge)
-}
+// The digits of each field behind the registers.
+const WIDTHS: [usize; 14] = [16, 16, 16, 16, 2, 2, 2, 16, 2, 2, 8, 2, 8, 16];
 
-pub fn put_bus(out: &mut [u8], at: usize, pointer: u8, bus: u8, choice: u8) -> usize
-    requires { at + 9 ≤ length out.old }
-    ensures { Wrote out.old at (fields_text (take 3 (drop 5 widths)) (pointer ∷ bus ∷ choice ∷ [])) result out.new × (result ≡ at + 9) }
+// An image's fields behind the registers, from the level to the place of the Device ID's byte that is told next: a tab and a number each.
+pub fn put_fields(out: &mut [u8], at: usize, numbers: &[u64; 12]) -> usize
+    requires { at + 112 ≤ length out.old }
+    ensures { Wrote out.old at (fields_text (drop 1 widths) numbers.now) result out.new × (result ≡ at + 112) }
 {
-    let first = put_field(out, at, 2, pointer as u64);
-    let second = put_field(out, first, 2, bus as u64);
-    put_field(out, second, 2, choice as u64)
-}
-
-// What is kept of the interrupt.
-pub fn put_interrupt(out: &mut [u8], at: usize, status: u64, line: u8) -> usize
-    requires { at + 20 ≤ length out.old }
-    ensures { Wrote out.old at (fields_text (take 2 (drop 8 widths)) (status ∷ line ∷ [])) result out.new × (result ≡ at + 20) }
-{
-    let first = put_field(out, at, 16, status);
-    put_field(out, first, 2, line as u64)
-}
-
-// The pointer's mode, and the Device ID: its number, and the place of its byte that is told next.
-pub fn put_last(out: &mut [u8], at: usize, mode: u8, number: u64, place: u8) -> usize
-    requires { at + 15 ≤ length out.old }
-    ensures { Wrote out.old at (fields_text (drop 10 widths) (mode ∷ number ∷ place ∷ [])) result out.new × (result ≡ at + 15) }
-{
-    let first = put_field(out, at, 2, mode as u64);
-    let second = put_field(out, first, 8, number);
-    put_field(out, second, 2, place as u64)
+    let mut end = at;
+    for i in 0..12 {
+        end = put_field(out, end, WIDTHS[i], numbers[i]);
+    }
+    end
 }

@@ -1,7 +1,7 @@
 -- One turn of each loop, over plain lists; what a byte's digits are is tried at each byte. Assumes nothing.
 use mathlib.Core.Path.{◌≡◌, refl, ap, sym, ◌∙◌}
 use mathlib.Core.Bool.{Bool, true, false, cond, and-false}
-use mathlib.Core.List.{List, [], ◌∷◌, ◌++◌}
+use mathlib.Core.List.{List, [], ◌∷◌, ◌++◌, append_assoc}
 use Prim.Native.Nat.{ℕ, zero, suc, ◌+◌, ◌-◌, ◌*◌, ◌/◌, ◌%◌, ◌^◌, ◌<◌, ◌≤◌}
 use native.Mathlib.Numerals.{add-one}
 use native.Mathlib.Nat.{pow-suc, pow-le-pow_right, lt_of_lt_of_le}
@@ -9,11 +9,11 @@ use native.Mathlib.Omega.{arith}
 use lib.Dec.{eqb, leb, ltb, lit<}
 use lib.Bits.{bit_and, and_le_r}
 use lib.ListN.{length, take, drop, get_or, set, length-append, length-drop}
-use lib.Seq.{drop-cons, take_all, sets, length-sets, set-set, set_comm}
+use lib.Seq.{drop-cons, drop-drop, take_all, sets, sets-eq, length-sets, set-set, set_comm}
+use borrow.Rule.Slice.PartMut.{put_mid}
 use borrow.Author.Tests.{ne_eqb, eq-eqb, lt-ltb, le-ltb, le-leb, lt-leb, leb-true}
 use Rattle.bits.proofs.Decide.{each}
-use Rattle.text.specs.declared.Digits.{Digits}
-use Rattle.text.specs.declared.Digits.TheVariants.{Number, None}
+use Rattle.std.specs.Prelude.{Option, Some, None}
 use Rattle.text.specs.Text.{starts_with, digit_of, number_of, up_to, field_of, Small, digit_byte, hex_text, Wrote}
 
 -- the rest of a list, as a part of it that ends where it ends
@@ -82,11 +82,11 @@ sets_append : (out : List ℕ) (at : ℕ) (s t : List ℕ) → sets (sets out at
 sets_append out at [] t = ap (λ (k : ℕ). sets out k t) (omega arith)
 sets_append out at (b ∷ s) t = ap (λ (k : ℕ). sets (sets (set out at b) (suc at) s) k t) (omega arith) ∙ sets_append (set out at b) (suc at) s t
 
--- one store of a run of them
-pub sets_more : (out : List ℕ) (at i : ℕ) (text : List ℕ) → i < length text
-    → sets (set out (at + i) (get_or text i 0)) (at + (i + 1)) (drop (i + 1) text) ≡ sets out (at + i) (drop i text)
-sets_more out at i text h =
-    rw (add-one i, drop-cons text i 0) (ap (λ (k : ℕ). sets (set out (at + i) (get_or text i 0)) k (drop (suc i) text)) (omega arith))
+-- a part that is copied over, as the code leaves it
+pub copied_over : (out : List ℕ) (at : ℕ) (text : List ℕ) {copy : List ℕ} → at + length text ≤ length out → copy ≡ text → put_mid at (at + length text - at) out copy ≡ sets out at text
+copied_over out at text h e =
+    let n : at + length text - at ≡ length text = omega arith in
+    rw (e, n, drop-drop (length text) at out, sets-eq text out at h) (sym (append_assoc (take at out) text (drop (at + length text) out)))
 
 -- a store past a run of them may come first
 set_sets : (out : List ℕ) (at k b : ℕ) (s : List ℕ) → at + length s ≤ k → set (sets out at s) k b ≡ sets (set out k b) at s
@@ -120,11 +120,11 @@ module _ (count most : ℕ) (text : List ℕ) (all : length text ≡ count) wher
   unfolding field_of
   field_none h = rw (eq-eqb (length text) count all, h)
 
-  pub field_over : {n : ℕ} → number_of 0 text ≡ Number n → most < n → None ≡ field_of count most text
+  pub field_over : {n : ℕ} → number_of 0 text ≡ Some n → most < n → None ≡ field_of count most text
   unfolding field_of
   field_over {n} h l = rw (eq-eqb (length text) count all, h, lt-leb n most l)
 
-  pub field_read : {n : ℕ} → number_of 0 text ≡ Number n → n ≤ most → Number n ≡ field_of count most text
+  pub field_read : {n : ℕ} → number_of 0 text ≡ Some n → n ≤ most → Some n ≡ field_of count most text
   unfolding field_of
   field_read {n} h l = rw (eq-eqb (length text) count all, h, le-leb n most l)
 
@@ -132,10 +132,10 @@ module _ (count most : ℕ) (text : List ℕ) (all : length text ≡ count) wher
 no_digits : (most : ℕ) → Small most None
 no_digits most = record { small = λ n e. let z : ◌≡◌ {A = ℕ} 0 1 = cc in absurd (omega arith) }
 
-up_to_lem : (most : ℕ) (d : Digits) → Small most (up_to most d)
-up_to_lem most (Number n) = fits (leb n most) refl
+up_to_lem : (most : ℕ) (d : Option ℕ) → Small most (up_to most d)
+up_to_lem most (Some n) = fits (leb n most) refl
   where
-    fits : (t : Bool) → leb n most ≡ t → Small most (cond t (Number n) None)
+    fits : (t : Bool) → leb n most ≡ t → Small most (cond t (Some n) None)
     fits true e = record { small = λ k q. let s : n ≡ k = cc in omega (arith, leb-true n most e) }
     fits false e = no_digits most
 up_to_lem most None = no_digits most

@@ -1,8 +1,6 @@
 -- Text as bytes: words and lowercase hex digits.
-use Rattle.std.specs.Prelude.{◌≡◌, Bool, false, true, cond, ◌&&◌, List, [], ◌∷◌, ◌++◌, ℕ, zero, suc, ◌+◌, ◌-◌, ◌*◌, ◌/◌, ◌%◌, ◌≤◌, eqb, leb, ltb, length}
+use Rattle.std.specs.Prelude.{◌≡◌, Option, Some, None, Bool, false, true, cond, ◌&&◌, List, [], ◌∷◌, ◌++◌, ℕ, zero, suc, ◌+◌, ◌-◌, ◌*◌, ◌/◌, ◌%◌, ◌≤◌, eqb, leb, ltb, length}
 use Rattle.std.proofs.lemmas.List.Edits.{sets}
-use Rattle.text.specs.declared.Digits.{Digits}
-use Rattle.text.specs.declared.Digits.TheVariants.{Number, None}
 
 -- whether the text begins with the word, and whether it is the word
 unfoldable pub starts_with : (word text : List ℕ) → Bool
@@ -18,21 +16,21 @@ unfoldable pub digit_of : ℕ → ℕ
 digit_of b = cond (leb 0x30 b && leb b 0x39) (b - 0x30) (cond (leb 0x61 b && leb b 0x66) (b - 0x57) 16)
 
 -- the number that the digits stand for, highest first, after those that stand for n
-unfoldable pub number_of : ℕ → List ℕ → Digits
-number_of n [] = Number n
+unfoldable pub number_of : ℕ → List ℕ → Option ℕ
+number_of n [] = Some n
 number_of n (b ∷ text) = cond (ltb (digit_of b) 16) (number_of (16 * n + digit_of b) text) None
 
-abbrev pub up_to : (most : ℕ) → Digits → Digits
-up_to most (Number n) = cond (leb n most) (Number n) None
+abbrev pub up_to : (most : ℕ) → Option ℕ → Option ℕ
+up_to most (Some n) = cond (leb n most) (Some n) None
 up_to most None = None
 
 -- so many digits, no more and no fewer, of a number that is most or less
-unfoldable pub field_of : (count most : ℕ) → List ℕ → Digits
+unfoldable pub field_of : (count most : ℕ) → List ℕ → Option ℕ
 field_of count most text = cond (eqb (length text) count) (up_to most (number_of 0 text)) None
 
 -- if they are digits, their number is most or less
-pub record Small (most : ℕ) (d : Digits) : Type 0 where
-  pub small : (n : ℕ) → d ≡ Number n → n ≤ most
+pub record Small (most : ℕ) (d : Option ℕ) : Type 0 where
+  pub small : (n : ℕ) → d ≡ Some n → n ≤ most
 
 -- the digit of a number below 16
 abbrev pub digit_byte : ℕ → ℕ

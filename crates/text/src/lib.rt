@@ -4,12 +4,6 @@
 ghost use Rattle.std.specs.Prelude.{◌≡◌, ◌+◌, ◌<◌, ◌≤◌, ◌/◌, ◌%◌, length};
 ghost use Rattle.text.specs.Text.{starts_with, is_word, digit_of, number_of, field_of, digit_byte, hex_text, Wrote};
 
-#[derive(Clone, Copy)]
-pub enum Digits {
-    Number(u64),
-    None,
-}
-
 // Whether s begins with the word.
 pub fn starts(s: &[u8], word: &[u8]) -> bool
     ensures { result ≡ starts_with word.now s.now }
@@ -17,12 +11,11 @@ pub fn starts(s: &[u8], word: &[u8]) -> bool
     if s.len() < word.len() {
         return false;
     }
-    let mut i = 0;
-    while i < word.len() {
+    // The slice's own `starts_with` was tried: to tell a line by its words took 48 instructions for 37, since this loop is unrolled.
+    for i in 0..word.len() {
         if s[i] != word[i] {
             return false;
         }
-        i += 1;
     }
     true
 }
@@ -31,16 +24,13 @@ pub fn starts(s: &[u8], word: &[u8]) -> bool
 pub fn is(s: &[u8], word: &[u8]) -> bool
     ensures { result ≡ is_word word.now s.now }
 {
-    if s.len() != word.len() {
-        return false;
-    }
-    starts(s, word)
+    s.len() == word.len() && starts(s, word)
 }
 
 // From the byte 30h on, which of 64 bytes are digits.
 const DIGIT_PLACES: u64 = 0x7e_0000_0000_03ff;
 
-// The number that a digit stands for, 16 where the byte is none. No branch tells numbers from letters: it would be guessed wrong.
+// The number that a digit stands for, 16 where the byte is none. No branch tells numbers from letters, nor an Option digits from other bytes: it would be guessed wrong.
 pub fn digit(b: u8) -> u64
     ensures { result ≡ digit_of b }
 {
@@ -56,39 +46,34 @@ pub fn digit(b: u8) -> u64
 }
 
 // The number that the digits of s stand for.
-fn number(s: &[u8]) -> Digits
+fn number(s: &[u8]) -> Option<u64>
     requires { length s.now ≤ 16 }
     ensures { result ≡ number_of 0 s.now }
 {
-    let mut n = 0u64;
-    let mut i = 0;
-    while i < s.len() {
-        let d = digit(s[i]);
+    let mut n = 0;
+    for b in s {
+        let d = digit(*b);
         if 15 < d {
-            return Digits::None;
+            return None;
         }
         n = 16 * n + d;
-        i += 1;
     }
-    Digits::Number(n)
+    Some(n)
 }
 
 // So many digits of a number that is most or less.
-pub fn field(s: &[u8], count: usize, most: u64) -> Digits
+pub fn field(s: &[u8], count: usize, most: u64) -> Option<u64>
     requires { count ≤ 16 }
     ensures { result ≡ field_of count most s.now }
 {
     if s.len() != count {
-        return Digits::None;
+        return None;
     }
-    let d = number(s);
-    let Digits::Number(n) = d else {
-        return Digits::None;
-    };
+    let n = number(s)?;
     if most < n {
-        return Digits::None;
+        return None;
     }
-    Digits::Number(n)
+    Some(n)
 }
 
 // The digit of a number below 16.
@@ -131,12 +116,9 @@ pub fn put(out: &mut [u8], at: usize, text: &[u8]) -> usize
     requires { at + length text.now ≤ length out.old }
     ensures { Wrote out.old at text.now result out.new }
 {
-    let mut i = 0;
-    while i < text.len() {
-        out[at + i] = text[i];
-        i += 1;
-    }
-    at + i
+    let end = at + text.len();
+    out[at..end].copy_from_slice(text);
+    end
 }
 
 // Puts so many lowest digits of n into out from at on, and says where they end.
@@ -145,11 +127,9 @@ pub fn put_hex(out: &mut [u8], at: usize, count: usize, n: u64) -> usize
     ensures { Wrote out.old at (hex_text count n) result out.new × (result ≡ at + count) }
 {
     let mut rest = n;
-    let mut i = count;
-    while 0 < i {
-        i -= 1;
+    for i in (0..count).rev() {
         out[at + i] = low_digit(rest);
-        rest = rest / 16;
+        rest /= 16;
     }
     at + count
 }

@@ -3,42 +3,84 @@ use mathlib.Core.Path.{◌≡◌, refl, ap, sym, ◌∙◌}
 use mathlib.Core.Bool.{Bool, true, false}
 use mathlib.Core.List.{List, [], ◌∷◌, ◌++◌}
 use Prim.Native.Nat.{ℕ, zero, suc, ◌+◌, ◌-◌, ◌<◌, ◌≤◌, min}
-use native.Mathlib.Numerals.{add-one}
 use native.Mathlib.Omega.{arith}
 use borrow.Author.Tests.{eq-eqb, ne_eqb, lt-ltb, le-ltb, ltb-true, ltb-false}
 use lib.Dec.{ltb}
 use lib.ListN.{length, take, drop, get_or, length-append, length-drop, take-append-drop}
 use lib.Seq.{drop-cons, take_all, take_at, drop_at, take-append-add, length-take-le, sets-eq}
+use Rattle.std.specs.Prelude.{Option, Some, None, position, nat_lt, not, cond, ◌==◌}
+use Rattle.std.specs.List.{position_or_len}
+use Rattle.std.proofs.lemmas.List.Recursion.{is_position_or_len}
+use Rattle.std.proofs.lemmas.List.Sums.{prefix_len-le-length}
 use Rattle.text.specs.Text.{Wrote}
-use Rattle.text.proofs.Laws.{wrote_as, wrote_length}
+use Rattle.text.proofs.Laws.{rest, wrote_length}
 use Rattle.text_pieces.specs.Pieces.{newline_at, taken_of, First, Kept}
 
 -- a newline that is sought from i on: it is there, or is sought from the next place on
-module _ (piece : List ℕ) (n i : ℕ) (sought : n ≡ i + newline_at (drop i piece)) (inside : i < length piece) where
-  pub newline_here : get_or piece i 0 ≡ 0x0a → i ≡ n
+module _ (s : List ℕ) (i : ℕ) (inside : i < length s) where
+  stands : get_or s i 0 ≡ 0x0a → newline_at (drop i s) ≡ 0
   unfolding newline_at
-  newline_here h =
-      let z : newline_at (drop i piece) ≡ 0 = rw (drop-cons piece i 0, eq-eqb (get_or piece i 0) 0x0a h) in
-      omega (arith, sought)
+  stands h = rw (drop-cons s i 0, eq-eqb (get_or s i 0) 0x0a h)
 
-  pub newline_later : (j : ℕ) → j ≡ i + 1 → (get_or piece i 0 ≡ 0x0a → ⊥) → n ≡ j + newline_at (drop j piece)
+  passed : (get_or s i 0 ≡ 0x0a → ⊥) → newline_at (drop i s) ≡ suc (newline_at (drop (suc i) s))
   unfolding newline_at
-  newline_later j e h =
-      let z : newline_at (drop i piece) ≡ suc (newline_at (drop (i + 1) piece)) =
-      rw (add-one i, drop-cons piece i 0, ne_eqb (get_or piece i 0) 0x0a h) in
-      rw e (omega (arith, sought))
+  passed h = rw (drop-cons s i 0, ne_eqb (get_or s i 0) 0x0a h)
 
--- the next three places on
-module _ (piece : List ℕ) (n i : ℕ) (sought : n ≡ i + newline_at (drop i piece)) (inside : i + 3 < length piece) (first : get_or piece i 0 ≡ 0x0a → ⊥) where
-  pub newline_one_later : n ≡ i + 1 + newline_at (drop (i + 1) piece)
-  newline_one_later = newline_later piece n i sought (omega arith) (i + 1) (omega arith) first
+-- the first four places of what is left of a piece
+module _ (piece left : List ℕ) (long : 4 ≤ length left) (within : length left ≤ length piece) (sought : newline_at piece ≡ length piece - length left + newline_at left) where
+  pub newline_first : get_or left 0 0 ≡ 0x0a → length piece - length left ≡ newline_at piece
+  newline_first h = omega (arith, sought, stands left 0 (omega arith) h)
 
-  module _ (second : get_or piece (i + 1) 0 ≡ 0x0a → ⊥) where
-    pub newline_two_later : n ≡ i + 2 + newline_at (drop (i + 2) piece)
-    newline_two_later = newline_later piece n (i + 1) newline_one_later (omega arith) (i + 2) (omega arith) second
+  module _ (first : get_or left 0 0 ≡ 0x0a → ⊥) where
+    one : newline_at left ≡ suc (newline_at (drop 1 left))
+    one = passed left 0 (omega arith) first
 
-    pub newline_three_later : (get_or piece (i + 2) 0 ≡ 0x0a → ⊥) → n ≡ i + 3 + newline_at (drop (i + 3) piece)
-    newline_three_later = newline_later piece n (i + 2) newline_two_later (omega arith) (i + 3) (omega arith)
+    pub newline_second : get_or left 1 0 ≡ 0x0a → length piece - length left + 1 ≡ newline_at piece
+    newline_second h = omega (arith, sought, one, stands left 1 (omega arith) h)
+
+    module _ (second : get_or left 1 0 ≡ 0x0a → ⊥) where
+      two : newline_at (drop 1 left) ≡ suc (newline_at (drop 2 left))
+      two = passed left 1 (omega arith) second
+
+      pub newline_third : get_or left 2 0 ≡ 0x0a → length piece - length left + 2 ≡ newline_at piece
+      newline_third h = omega (arith, sought, one, two, stands left 2 (omega arith) h)
+
+      module _ (third : get_or left 2 0 ≡ 0x0a → ⊥) where
+        three : newline_at (drop 2 left) ≡ suc (newline_at (drop 3 left))
+        three = passed left 2 (omega arith) third
+
+        pub newline_fourth : get_or left 3 0 ≡ 0x0a → length piece - length left + 3 ≡ newline_at piece
+        newline_fourth h = omega (arith, sought, one, two, three, stands left 3 (omega arith) h)
+
+        pub newline_later : (get_or left 3 0 ≡ 0x0a → ⊥) → let more = take (length left - 4) (drop 4 left) in (length more ≤ length piece) × (newline_at piece ≡ length piece - length more + newline_at more)
+        newline_later fourth =
+            rw (rest 4 left) (omega (arith, length-drop 4 left), omega (arith, sought, one, two, three, passed left 3 (omega arith) fourth, length-drop 4 left))
+
+-- the same place in the words of std
+abbrev newlines : ℕ → Bool
+newlines = λ b. b == 0x0a
+
+newline_place : (s : List ℕ) → newline_at s ≡ position_or_len newlines s
+unfolding newline_at
+newline_place = is_position_or_len newline_at newlines refl (λ b s. ap (cond (b == 0x0a) 0) (omega arith))
+
+module _ (piece left : List ℕ) (within : length left ≤ length piece) (sought : newline_at piece ≡ length piece - length left + newline_at left) where
+  pub newline_found : {k : ℕ} → position newlines left ≡ Some k → (length piece - length left + k ≡ newline_at piece) × (length piece - length left + k ≤ length piece)
+  newline_found {k} e = go (nat_lt (position_or_len newlines left) (length left)) refl e
+    where
+      go : (t : Bool) → nat_lt (position_or_len newlines left) (length left) ≡ t → cond t (Some (position_or_len newlines left)) None ≡ Some k
+          → (length piece - length left + k ≡ newline_at piece) × (length piece - length left + k ≤ length piece)
+      go true l q =
+          let same : position_or_len newlines left ≡ k = cc in
+          (omega (arith, sought, newline_place left, same), omega (arith, ltb-true _ _ l, same))
+      go false l q = let none : ◌≡◌ {A = ℕ} 0 1 = cc in absurd (omega arith)
+
+  pub newline_missed : position newlines left ≡ None → length piece ≡ newline_at piece
+  newline_missed e = go (nat_lt (position_or_len newlines left) (length left)) refl e
+    where
+      go : (t : Bool) → nat_lt (position_or_len newlines left) (length left) ≡ t → ◌≡◌ {A = Option ℕ} (cond t (Some (position_or_len newlines left)) None) None → length piece ≡ newline_at piece
+      go true l q = let some : ◌≡◌ {A = ℕ} 0 1 = cc in absurd (omega arith)
+      go false l q = omega (arith, sought, newline_place left, ltb-false _ _ l, prefix_len-le-length (λ b. not (newlines b)) left)
 
 -- a line that ends in the piece, and one that does not
 module _ (piece : List ℕ) (n : ℕ) (stands : n ≡ newline_at piece) (within : n ≤ length piece) where
@@ -87,16 +129,11 @@ module _ (held part : List ℕ) (len n : ℕ) (fits : len ≤ length held) (leas
   part_length : length (take n part) ≡ n
   part_length = length-take-le n part (omega arith)
 
-  -- the part that is copied, as the code names it
-  part_is : take (n - 0) part ≡ take n part
-  part_is = let e : n - 0 ≡ n = omega arith in ap (λ (k : ℕ). take k part) e
-
   held_length : length (take len held) ≡ len
   held_length = length-take-le len held fits
 
-  pub part_kept : {end : ℕ} {left : List ℕ} → Wrote held len (take (n - 0) part) end left → Kept held len part end left
-  part_kept {end} {left} v =
-      let w : Wrote held len (take n part) end left = wrote_as part_is v in
+  pub part_kept : {end : ℕ} {left : List ℕ} → Wrote held len (take n part) end left → Kept held len part end left
+  part_kept {end} {left} w =
       let e : length (take len held) + (length held - len) ≡ length held = omega (arith, held_length) in
       let front : List ℕ = take len held ++ take n part in
       let ends : length front ≡ end = length-append (take len held) (take n part) ∙ omega (arith, part_length, held_length, w.ends) in

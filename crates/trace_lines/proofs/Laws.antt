@@ -11,15 +11,14 @@ use borrow.Author.Tests.{ne_eqb, eqb-true, lt-ltb, le-ltb}
 use Rattle.bits.proofs.Decide.{and_right, either_arm}
 use Rattle.map.specs.Map.{Part, part_of}
 use Rattle.device_rules.specs.Refusals.{argument_fits}
-use Rattle.text.specs.declared.Digits.{Digits}
-use Rattle.text.specs.declared.Digits.TheVariants.{Number, None}
+use Rattle.std.specs.Prelude.{Option, Some, None}
 use Rattle.text.proofs.Laws.{starts_short, field_small, rest}
 use Rattle.text.specs.Text.{starts_with, is_word, field_of, Small}
 use Rattle.text_answers.specs.Answers.{digits_of}
 use Rattle.trace_lines.specs.declared.Line.TheVariants.{Event, Unreadable}
 use Rattle.trace_lines.specs.Lines.{line_of, fields_of, devices_of, device_of, levels_of, event_with, device_with, start, stop, reset, byte, fetch, pins, device, device34, tab, Taken, Means}
 
-small_levels : (p : Part) {d : Digits} → Small (2 ^ p.width - 1) d → (n : ℕ) → d ≡ Number n → n < 2 ^ p.width
+small_levels : (p : Part) {d : Option ℕ} → Small (2 ^ p.width - 1) d → (n : ℕ) → d ≡ Some n → n < 2 ^ p.width
 small_levels p s n e = omega (arith, s.small n e, pow_pos p.width)
 
 module _ (p : Part) where
@@ -58,20 +57,20 @@ module _ (p : Part) where
   plain : (kind : ℕ) → kind ≤ 5 → (kind ≡ 2 → ⊥) → (kind ≡ 3 → ⊥) → (kind ≡ 4 → ⊥) → Means p (Event kind 0)
   plain kind h two three four = event kind 0 (h, λ z. absurd (two z), λ z. absurd (three z), λ z. absurd (four z))
 
-  byte_means : (d : Digits) → Small 0xff d → Means p (event_with 2 d)
-  byte_means (Number n) b = event 2 n (omega arith, λ z. b.small n refl, λ z. absurd (omega (arith, z)), λ z. absurd (omega (arith, z)))
+  byte_means : (d : Option ℕ) → Small 0xff d → Means p (event_with 2 d)
+  byte_means (Some n) b = event 2 n (omega arith, λ z. b.small n refl, λ z. absurd (omega (arith, z)), λ z. absurd (omega (arith, z)))
   byte_means None b = none
 
-  fetch_means : (d : Digits) → Small 1 d → Means p (event_with 3 d)
-  fetch_means (Number n) b = event 3 n (omega arith, λ z. absurd (omega (arith, z)), λ z. b.small n refl, λ z. absurd (omega (arith, z)))
+  fetch_means : (d : Option ℕ) → Small 1 d → Means p (event_with 3 d)
+  fetch_means (Some n) b = event 3 n (omega arith, λ z. absurd (omega (arith, z)), λ z. b.small n refl, λ z. absurd (omega (arith, z)))
   fetch_means None b = none
 
-  pins_mean : (d : Digits) → Small (2 ^ p.width - 1) d → Means p (event_with 4 d)
-  pins_mean (Number n) b = event 4 n (omega arith, λ z. absurd (omega (arith, z)), λ z. absurd (omega (arith, z)), λ z. small_levels p b n refl)
+  pins_mean : (d : Option ℕ) → Small (2 ^ p.width - 1) d → Means p (event_with 4 d)
+  pins_mean (Some n) b = event 4 n (omega arith, λ z. absurd (omega (arith, z)), λ z. absurd (omega (arith, z)), λ z. small_levels p b n refl)
   pins_mean None b = none
 
-  made : (part : ℕ) → part < 2 → (c l : Digits) → Small 3 c → Small (2 ^ (part_of part).width - 1) l → Means p (device_with part c l)
-  made part two (Number c) (Number l) a b =
+  made : (part : ℕ) → part < 2 → (c l : Option ℕ) → Small 3 c → Small (2 ^ (part_of part).width - 1) l → Means p (device_with part c l)
+  made part two (Some c) (Some l) a b =
       record {
         makes = λ q choice levels e. (
             let s : part ≡ q = cc in
@@ -80,7 +79,7 @@ module _ (p : Part) where
             (omega arith, omega (arith, a.small c refl), rw (← s, ← u) (small_levels (part_of part) b l refl)));
         takes = λ k g e. (let z : ◌≡◌ {A = ℕ} 0 1 = cc in absurd (omega arith));
       }
-  made part two (Number c) None a b = none
+  made part two (Some c) None a b = none
   made part two None l a b = none
 
   device_means : (part : ℕ) → part < 2 → (s : List ℕ) → Means p (device_of part s)
@@ -128,7 +127,7 @@ module _ (part : ℕ) (s : List ℕ) where
   unfolding device_of
   device_no_tab h = rw (rw rest at h)
 
-  pub device_fields : (choice levels : Digits) (count most : ℕ) → count ≡ digits_of (part_of part) → most ≡ 2 ^ (part_of part).width - 1
+  pub device_fields : (choice levels : Option ℕ) (count most : ℕ) → count ≡ digits_of (part_of part) → most ≡ 2 ^ (part_of part).width - 1
       → choice ≡ field_of 1 3 (take 1 s) → levels ≡ field_of count most (take (length s - 2) (drop 2 s))
       → starts_with tab (take (length s - 1) (drop 1 s)) ≡ true → device_with part choice levels ≡ device_of part s
   unfolding device_of

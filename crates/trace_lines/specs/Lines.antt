@@ -1,9 +1,6 @@
 -- What a line of a log says, given its bytes without the newline and the part of the device that there is.
-use Rattle.std.specs.Prelude.{◌≡◌, cond, List, [], ◌∷◌, ℕ, ◌-◌, ◌^◌, ◌<◌, ◌≤◌, ltb, length, take, drop}
+use Rattle.std.specs.Prelude.{Option, Some, None, ◌≡◌, cond, List, [], ◌∷◌, ℕ, ◌-◌, ◌^◌, ◌<◌, ◌≤◌, ltb, length, take, drop}
 use Rattle.map.specs.Map.{Part, part_of}
-use Rattle.text.specs.declared.Digits.{Digits}
-use Rattle.map.specs.Map.{Part, part_of}
-use Rattle.text.specs.declared.Digits.TheVariants.{Number, None}
 use Rattle.text.specs.Text.{starts_with, is_word, field_of}
 use Rattle.text_answers.specs.Answers.{digits_of}
 use Rattle.trace_lines.specs.declared.Line.{Line}
@@ -38,17 +35,17 @@ abbrev pub device34 : List ℕ
 device34 = 0x64 ∷ 0x65 ∷ 0x76 ∷ 0x69 ∷ 0x63 ∷ 0x65 ∷ 0x33 ∷ 0x34 ∷ tab
 
 -- an event whose argument is the digits' number
-abbrev pub event_with : (kind : ℕ) → Digits → Line
-event_with kind (Number arg) = Event kind arg
+abbrev pub event_with : (kind : ℕ) → Option ℕ → Line
+event_with kind (Some arg) = Event kind arg
 event_with kind None = Unreadable
 
-abbrev pub device_with : (part : ℕ) → (choice levels : Digits) → Line
-device_with part (Number choice) (Number levels) = Device part choice levels
-device_with part (Number choice) None = Unreadable
+abbrev pub device_with : (part : ℕ) → (choice levels : Option ℕ) → Line
+device_with part (Some choice) (Some levels) = Device part choice levels
+device_with part (Some choice) None = Unreadable
 device_with part None levels = Unreadable
 
 -- pin levels: six digits, nine of the sister, and no pin that does not exist
-abbrev pub levels_of : Part → List ℕ → Digits
+abbrev pub levels_of : Part → List ℕ → Option ℕ
 levels_of p s = field_of (digits_of p) (2 ^ p.width - 1) s
 
 -- one digit for a choice, 3 or less; a tab; levels

@@ -7,7 +7,6 @@ ghost use Rattle.map.specs.Map.{part_of};
 ghost use Rattle.trace_lines.specs.Lines.{event_with, device_with, device_of, devices_of, line_of, fields_of};
 
 use device_rules::{BYTE, FETCH, LEVELS, RESET, START, STOP};
-use text::Digits;
 
 // No readable line is longer.
 const LONGEST: usize = 32;
@@ -24,30 +23,30 @@ pub enum Line {
 }
 
 // An event whose argument is the digits'.
-fn event_with(kind: u32, d: Digits) -> Line
-    ensures { result ≡ event_with kind d }
+fn event_with(kind: u32, argument: Option<u64>) -> Line
+    ensures { result ≡ event_with kind argument }
 {
-    let Digits::Number(arg) = d else {
+    let Some(arg) = argument else {
         return Line::Unreadable;
     };
     Line::Event { kind, arg }
 }
 
 // A device of this part with this choice and these levels.
-fn device_with(part: u64, choice: Digits, levels: Digits) -> Line
+fn device_with(part: u64, choice: Option<u64>, levels: Option<u64>) -> Line
     requires { Small 3 choice }
     ensures { result ≡ device_with part choice levels }
 {
-    let Digits::Number(c) = choice else {
+    let Some(choice) = choice else {
         return Line::Unreadable;
     };
-    let Digits::Number(l) = levels else {
+    let Some(levels) = levels else {
         return Line::Unreadable;
     };
     Line::Device {
         part,
-        choice: c as u8,
-        levels: l,
+        choice: choice as u8,
+        levels,
     }
 }
 

@@ -10,8 +10,7 @@ use lib.ListN.{length, take, drop, length-drop}
 use lib.Pow.{pow_pos}
 use Rattle.bits.proofs.Decide.{either_arm}
 use Rattle.map.specs.Map.{Part, part_of}
-use Rattle.text.specs.declared.Digits.{Digits}
-use Rattle.text.specs.declared.Digits.TheVariants.{Number, None}
+use Rattle.std.specs.Prelude.{Option, Some, None}
 use Rattle.text.specs.Text.{starts_with, field_of, Small}
 use Rattle.text.proofs.Laws.{rest, starts_short, field_small}
 use Rattle.text_answers.specs.Answers.{digits_of}
@@ -19,7 +18,7 @@ use Rattle.trace_lines.specs.Lines.{line_of, levels_of, tab, device, device34, d
 use Rattle.trace_lines.specs.declared.Line.{Line}
 use Rattle.trace_lines.specs.declared.Line.TheVariants as trace
 use Rattle.trace_lines.proofs.Laws.{line_means, line_tiny, line_long}
-use Rattle.watch_lines.specs.declared.Said.TheVariants.{Device, Event, Unreadable}
+use Rattle.watch_lines.specs.declared.Said.TheVariants.{Event, Unreadable}
 use Rattle.watch_lines.specs.Watching.{sign, sign_with, device_with, device_of, own_of, said_as, said_by, Means}
 
 -- ---- a device
@@ -34,7 +33,7 @@ module _ (part : ℕ) (s : List ℕ) (digits : ℕ) (are : digits ≡ digits_of 
   pub device_no_tab : starts_with tab (take (length s - (digits + 2)) (drop (digits + 2) s)) ≡ false → Unreadable ≡ device_of part s
   device_no_tab h = by_digits digits are (rw rest at h)
 
-  pub device_fields : {made : Line} {healthy : Digits} (most : ℕ) → most ≡ 2 ^ (part_of part).width - 1 → made ≡ tracedDevice part (take (digits + 2 - 0) s)
+  pub device_fields : {made : Line} {healthy : Option ℕ} (most : ℕ) → most ≡ 2 ^ (part_of part).width - 1 → made ≡ tracedDevice part (take (digits + 2 - 0) s)
       → healthy ≡ field_of digits most (take (length s - (digits + 2 + 1)) (drop (digits + 2 + 1) s))
       → starts_with tab (take (length s - (digits + 2)) (drop (digits + 2) s)) ≡ true → device_with made healthy ≡ device_of part s
   unfolding device_of
@@ -87,8 +86,8 @@ module _ (p : Part) where
     takes = λ k a e. (let z : ◌≡◌ {A = ℕ} 0 1 = cc in absurd (omega arith));
   }
 
-  signs : (d : Digits) → Means p (sign_with d)
-  signs (Number n) = record {
+  signs : (d : Option ℕ) → Means p (sign_with d)
+  signs (Some n) = record {
     makes = λ q c l h e. (let z : ◌≡◌ {A = ℕ} 0 1 = cc in absurd (omega arith));
     takes = λ k a e. (let z : ◌≡◌ {A = ℕ} 0 1 = cc in absurd (omega arith));
   }
@@ -103,11 +102,11 @@ module _ (p : Part) where
         rw (← s, ← q) t);
   }
 
-  small : (part : ℕ) {d : Digits} → Small (2 ^ (part_of part).width - 1) d → (n : ℕ) → d ≡ Number n → n < 2 ^ (part_of part).width
+  small : (part : ℕ) {d : Option ℕ} → Small (2 ^ (part_of part).width - 1) d → (n : ℕ) → d ≡ Some n → n < 2 ^ (part_of part).width
   small part s n e = omega (arith, s.small n e, pow_pos (part_of part).width)
 
-  made : (part : ℕ) → part < 2 → (c l h : Digits) → Small 3 c → Small (2 ^ (part_of part).width - 1) l → Small (2 ^ (part_of part).width - 1) h → Means p (device_with (tracedWith part c l) h)
-  made part two (Number c) (Number l) (Number h) a b d = record {
+  made : (part : ℕ) → part < 2 → (c l h : Option ℕ) → Small 3 c → Small (2 ^ (part_of part).width - 1) l → Small (2 ^ (part_of part).width - 1) h → Means p (device_with (tracedWith part c l) h)
+  made part two (Some c) (Some l) (Some h) a b d = record {
     makes = λ q choice levels healthy e. (
         let s : part ≡ q = cc in
         let t : c ≡ choice = cc in
@@ -116,8 +115,8 @@ module _ (p : Part) where
         (omega arith, omega (arith, a.small c refl), rw (← s, ← u) (small part b l refl), rw (← s, ← v) (small part d h refl)));
     takes = λ k g e. (let z : ◌≡◌ {A = ℕ} 0 1 = cc in absurd (omega arith));
   }
-  made part two (Number c) (Number l) None a b d = none
-  made part two (Number c) None h a b d = none
+  made part two (Some c) (Some l) None a b d = none
+  made part two (Some c) None h a b d = none
   made part two None l h a b d = none
 
   device_means : (part : ℕ) → part < 2 → (s : List ℕ) → Means p (device_of part s)

@@ -1,8 +1,6 @@
 -- What a line of a watched log says: a trace's line with two changes. A device line has a fourth field, each pin's healthy level, and `sign` signs a pin off.
-use Rattle.std.specs.Prelude.{◌≡◌, cond, List, ◌∷◌, ℕ, ◌+◌, ◌^◌, ◌<◌, ◌≤◌, ltb, length, take, drop}
+use Rattle.std.specs.Prelude.{Option, Some, None, ◌≡◌, cond, List, ◌∷◌, ℕ, ◌+◌, ◌^◌, ◌<◌, ◌≤◌, ltb, length, take, drop}
 use Rattle.map.specs.Map.{Part, part_of}
-use Rattle.text.specs.declared.Digits.{Digits}
-use Rattle.text.specs.declared.Digits.TheVariants.{Number, None}
 use Rattle.text.specs.Text.{starts_with, field_of}
 use Rattle.text_answers.specs.Answers.{digits_of}
 use Rattle.trace_lines.specs.Lines.{line_of, levels_of, Taken, tab, device, device34, device_of as tracedDevice}
@@ -14,13 +12,13 @@ use Rattle.watch_lines.specs.declared.Said.TheVariants.{Device, Event, SignOff, 
 abbrev pub sign : List ℕ
 sign = 0x73 ∷ 0x69 ∷ 0x67 ∷ 0x6e ∷ tab
 
-abbrev pub sign_with : Digits → Said
-sign_with (Number pin) = SignOff pin
+abbrev pub sign_with : Option ℕ → Said
+sign_with (Some pin) = SignOff pin
 sign_with None = Unreadable
 
 -- the device that a trace's fields say, with these healthy levels
-abbrev pub device_with : (made : Line) → (healthy : Digits) → Said
-device_with (trace.Device part choice levels) (Number healthy) = Device part choice levels healthy
+abbrev pub device_with : (made : Line) → (healthy : Option ℕ) → Said
+device_with (trace.Device part choice levels) (Some healthy) = Device part choice levels healthy
 device_with (trace.Device part choice levels) None = Unreadable
 device_with (trace.Event kind arg) healthy = Unreadable
 device_with trace.Unreadable healthy = Unreadable

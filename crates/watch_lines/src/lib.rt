@@ -6,7 +6,6 @@ ghost use Rattle.map.specs.Map.{part_of};
 ghost use Rattle.text.specs.Text.{Small};
 ghost use Rattle.watch_lines.specs.Watching.{sign_with, device_with, device_of, own_of, said_by};
 
-use text::Digits;
 use trace_lines::Line;
 
 // No readable line is longer.
@@ -35,43 +34,36 @@ pub enum Said {
 }
 
 // A sign-off of the pin that the digits say.
-fn sign_with(d: Digits) -> Said
-    requires { Small 0xff d }
-    ensures { result ≡ sign_with d }
+fn sign_with(number: Option<u64>) -> Said
+    requires { Small 0xff number }
+    ensures { result ≡ sign_with number }
 {
-    let Digits::Number(pin) = d else {
+    let Some(pin) = number else {
         return Said::Unreadable;
     };
     Said::SignOff { pin: pin as u32 }
 }
 
-// A device with the healthy levels that the digits say.
-fn healthy_with(part: u64, choice: u8, levels: u64, healthy: Digits) -> Said
-    ensures { result ≡ device_with (Line.Device part choice levels) healthy }
+// The device that a trace's fields say, with these healthy levels.
+fn device_with(made: Line, healthy: Option<u64>) -> Said
+    ensures { result ≡ device_with made healthy }
 {
-    let Digits::Number(h) = healthy else {
+    let Line::Device {
+        part,
+        choice,
+        levels,
+    } = made
+    else {
+        return Said::Unreadable;
+    };
+    let Some(healthy) = healthy else {
         return Said::Unreadable;
     };
     Said::Device {
         part,
         choice,
         levels,
-        healthy: h,
-    }
-}
-
-// The device that a trace's fields say, with these healthy levels.
-fn device_with(made: Line, healthy: Digits) -> Said
-    ensures { result ≡ device_with made healthy }
-{
-    match made {
-        Line::Device {
-            part,
-            choice,
-            levels,
-        } => healthy_with(part, choice, levels, healthy),
-        Line::Event { .. } => Said::Unreadable,
-        Line::Unreadable => Said::Unreadable,
+        healthy,
     }
 }
 
@@ -115,8 +107,7 @@ fn read_own(line: &[u8]) -> Said
 pub fn read(line: &[u8], part: u64) -> Said
     ensures { result ≡ said_by (part_of part) line.now }
 {
-    let traced = trace_lines::read(line, part);
-    match traced {
+    match trace_lines::read(line, part) {
         Line::Event { kind, arg } => Said::Event { kind, arg },
         Line::Device { .. } => Said::Unreadable,
         Line::Unreadable => read_own(line),

@@ -9,14 +9,14 @@ pub returns-then-s-count : goal.returns-then-s-count
 unfolding field_of
 returns-then-s-count c = simp (ne_eqb _ _ c.if-s-count.true)
 
-pub returns-in_default : goal.returns-in_default
-returns-in_default c =
-    field_none _ _ _ c.if-s-count.false (sym c.number-d.ensures ∙ c.in_default.is)
+pub returns-in_err-n : goal.returns-in_err-n
+returns-in_err-n c =
+    c.from_residual.ensures ∙ field_none _ _ _ c.if-s-count.false (sym c.number.ensures ∙ c.in_err-n.was)
 
 pub returns-then-most-n : goal.returns-then-most-n
 returns-then-most-n c =
-    field_over _ _ _ c.if-s-count.false (sym c.number-d.ensures ∙ c.in-Number.is) c.if-most-n.true
+    field_over _ _ _ c.if-s-count.false (sym c.number.ensures ∙ c.in_ok-n.was) c.if-most-n.true
 
 pub returns : goal.returns
 returns c =
-    field_read _ _ _ c.if-s-count.false (sym c.number-d.ensures ∙ c.in-Number.is) c.if-most-n.false
+    field_read _ _ _ c.if-s-count.false (sym c.number.ensures ∙ c.in_ok-n.was) c.if-most-n.false

@@ -5,8 +5,8 @@ use Rattle.text.proofs.is.Goals as goal
 
 pub returns-then-s-word : goal.returns-then-s-word
 unfolding is_word
-returns-then-s-word c = simp (ne_eqb _ _ c.if-s-word.true)
+returns-then-s-word c = simp (eq-eqb _ _ c.if-s-word.true, c.starts.ensures)
 
-pub returns : goal.returns
+pub returns-else-s-word : goal.returns-else-s-word
 unfolding is_word
-returns c = simp (eq-eqb _ _ c.if-s-word.false, c.starts.ensures)
+returns-else-s-word c = simp (ne_eqb _ _ c.if-s-word.false)

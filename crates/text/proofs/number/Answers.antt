@@ -7,25 +7,22 @@ use Rattle.text.specs.Text.{number_of}
 use Rattle.text.proofs.Laws.{number_ends, number_on, power_more, power_fits}
 use Rattle.text.proofs.number.Goals as goal
 
-pub loop-i-init : goal.loop-i-init
-loop-i-init c = (search rules, search rules, refl)
-
 pub returns-then-d-gt15 : goal.returns-then-d-gt15
 returns-then-d-gt15 c =
-    sym (c.loop-i.invariant.2 ∙ number_ends c.loop-i.n c.args.s.now c.loop-i.i (search rules) (search rules))
+    sym (c.loop-b.invariant.1 ∙ number_ends c.loop-b.n c.args.s.now c.loop-b.b-index (search rules) (search rules))
 
 pub overflow_mul-n : goal.overflow_mul-n
-overflow_mul-n c = let f = power_fits _ _ c.loop-i.invariant.1 (omega arith) in omega arith
+overflow_mul-n c = let f = power_fits _ _ c.loop-b.invariant.0 (omega arith) in search rules
 
 pub overflow_add-n : goal.overflow_add-n
-overflow_add-n c = let f = power_fits _ _ c.loop-i.invariant.1 (omega arith) in omega arith
+overflow_add-n c = let f = power_fits _ _ c.loop-b.invariant.0 (omega arith) in search rules
 
-pub loop-i-preserved : goal.loop-i-preserved
-loop-i-preserved c =
-    (search rules, power_more _ _ _ c.loop-i.invariant.1 (search rules), c.loop-i.invariant.2 ∙ rw c.digit-d.ensures (number_on c.loop-i.n c.args.s.now c.loop-i.i (search rules) (search rules)))
+pub loop-b-preserved : goal.loop-b-preserved
+loop-b-preserved c =
+    (power_more _ _ _ c.loop-b.invariant.0 (search rules), c.loop-b.invariant.1 ∙ rw c.digit-d.ensures (number_on c.loop-b.n c.args.s.now c.loop-b.b-index (search rules) (search rules)))
 
 pub returns : goal.returns
 unfolding number_of
 returns c =
-    let e : c.loop-i.i ≡ length c.args.s.now = omega arith in
-    sym (c.loop-i.invariant.2 ∙ rw (e, drop-length) refl)
+    let e : c.loop-b.b-index ≡ length c.args.s.now = omega arith in
+    sym (c.loop-b.invariant.1 ∙ rw (e, drop-length) refl)

@@ -7,17 +7,13 @@ use Rattle.text.specs.Text.{hex_text}
 use Rattle.text.proofs.Laws.{hex_length, hex_more}
 use Rattle.text.proofs.put_hex.Goals as goal
 
-pub loop-i-init : goal.loop-i-init
-loop-i-init c = (search rules, refl, refl)
-
 pub loop-i-preserved : goal.loop-i-preserved
 loop-i-preserved c =
     let a = c.args in
     let e : suc (c.loop-i.i - 1) ≡ c.loop-i.i = omega arith in (
       search rules,
-      search rules,
       rw c.low_digit.ensures
-          (hex_more c.loop-i.out a.at (c.loop-i.i - 1) c.loop-i.rest ∙ ap (λ (k : ℕ). sets c.loop-i.out a.at (hex_text k c.loop-i.rest)) e ∙ c.loop-i.invariant.2),
+          (hex_more c.loop-i.out a.at (c.loop-i.i - 1) c.loop-i.rest ∙ ap (λ (k : ℕ). sets c.loop-i.out a.at (hex_text k c.loop-i.rest)) e ∙ c.loop-i.invariant.1),
     )
 
 pub returns : goal.returns
@@ -25,6 +21,6 @@ unfolding hex_text
 returns c =
     let a = c.args in
     let e : c.loop-i.i ≡ 0 = omega arith in (
-      record { ends = ap (λ (k : ℕ). a.at + k) (sym (hex_length a.count a.n)); holds = rw (e, hex_text) at c.loop-i.invariant.2 },
+      record { ends = ap (λ (k : ℕ). a.at + k) (sym (hex_length a.count a.n)); holds = rw (e, hex_text) at c.loop-i.invariant.1 },
       refl,
     )

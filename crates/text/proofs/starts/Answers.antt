@@ -10,19 +10,16 @@ use Rattle.text.proofs.starts.Goals as goal
 pub returns-then-s-word : goal.returns-then-s-word
 returns-then-s-word c = sym (starts_short _ _ c.if-s-word.true)
 
-pub loop-i-init : goal.loop-i-init
-loop-i-init c = (search rules, search rules, refl)
-
 pub returns-then-s-i : goal.returns-then-s-i
 returns-then-s-i c =
-    sym (c.loop-i.invariant.2 ∙ starts_differ c.args.word.now c.args.s.now c.loop-i.i (search rules) (search rules) c.if-s-i.true)
+    sym (c.loop-i.invariant.1 ∙ starts_differ c.args.word.now c.args.s.now c.loop-i.i (search rules) (search rules) c.if-s-i.true)
 
 pub loop-i-preserved : goal.loop-i-preserved
 loop-i-preserved c =
-    (search rules, search rules, c.loop-i.invariant.2 ∙ starts_same c.args.word.now c.args.s.now c.loop-i.i (search rules) (search rules) c.if-s-i.false)
+    (search rules, c.loop-i.invariant.1 ∙ starts_same c.args.word.now c.args.s.now c.loop-i.i (search rules) (search rules) c.if-s-i.false)
 
 pub returns : goal.returns
 unfolding starts_with
 returns c =
     let e : c.loop-i.i ≡ length c.args.word.now = omega arith in
-    sym (c.loop-i.invariant.2 ∙ rw (e, drop-length) refl)
+    sym (c.loop-i.invariant.1 ∙ rw (e, drop-length) refl)

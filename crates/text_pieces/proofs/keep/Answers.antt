@@ -3,4 +3,4 @@ use Rattle.text_pieces.proofs.Laws.{part_kept}
 use Rattle.text_pieces.proofs.keep.Goals as goal
 
 pub returns : goal.returns
-returns c = part_kept _ _ _ _ c.requires c.least-n.ensures.2 c.put.ensures
+returns c = part_kept _ _ _ _ c.requires c.min-n.ensures c.put.ensures

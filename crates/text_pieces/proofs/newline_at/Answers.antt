@@ -1,37 +1,39 @@
-use borrow.Author.Rules.{rules}
-use mathlib.Core.Path.{sym, ◌∙◌}
 use native.Mathlib.Omega.{arith}
-use Prim.Native.Nat.{◌+◌}
-use Rattle.text_pieces.proofs.Laws.{newline_here, newline_later, newline_one_later, newline_two_later, newline_three_later}
+use mathlib.Core.Path.{sym, ◌∙◌}
+use Rattle.text_pieces.proofs.Laws.{newline_first, newline_second, newline_third, newline_fourth, newline_later, newline_found, newline_missed}
 use Rattle.text_pieces.proofs.newline_at.Goals as goal
 
-pub returns-then-piece-i-eq10 : goal.returns-then-piece-i-eq10
-returns-then-piece-i-eq10 c =
-    (newline_here c.args.piece.now _ c.loop-i.i c.loop-i.invariant.1 (search rules) c.if-piece-i-eq10.true, search rules)
+pub returns-then-first-eq10 : goal.returns-then-first-eq10
+returns-then-first-eq10 c =
+    let v = c.loop-left.invariant in
+    (newline_first _ _ c.in-len4-up.len_at_least v.0 v.1 c.if-first-eq10.true, omega arith)
 
-pub returns-then-piece-i-eq10-2 : goal.returns-then-piece-i-eq10-2
-returns-then-piece-i-eq10-2 c =
-    let s = c.args.piece.now in
-    let d = newline_one_later s _ c.loop-i.i c.loop-i.invariant.1 (search rules) c.if-piece-i-eq10.false in
-    (newline_here s _ (c.loop-i.i + 1) d (search rules) c.if-piece-i-eq10-2.true, search rules)
+pub returns-then-second-eq10 : goal.returns-then-second-eq10
+returns-then-second-eq10 c =
+    let v = c.loop-left.invariant in
+    (newline_second _ _ c.in-len4-up.len_at_least v.0 v.1 c.if-first-eq10.false c.if-second-eq10.true, omega (arith, c.in-len4-up.len_at_least))
 
-pub returns-then-piece-i-eq10-3 : goal.returns-then-piece-i-eq10-3
-returns-then-piece-i-eq10-3 c =
-    let s = c.args.piece.now in
-    let d = newline_two_later s _ c.loop-i.i c.loop-i.invariant.1 (search rules) c.if-piece-i-eq10.false c.if-piece-i-eq10-2.false in
-    (newline_here s _ (c.loop-i.i + 2) d (search rules) c.if-piece-i-eq10-3.true, search rules)
+pub returns-then-third-eq10 : goal.returns-then-third-eq10
+returns-then-third-eq10 c =
+    let v = c.loop-left.invariant in
+    (newline_third _ _ c.in-len4-up.len_at_least v.0 v.1 c.if-first-eq10.false c.if-second-eq10.false c.if-third-eq10.true, omega (arith, c.in-len4-up.len_at_least))
 
-pub returns-then-piece-i-eq10-4 : goal.returns-then-piece-i-eq10-4
-returns-then-piece-i-eq10-4 c =
-    let s = c.args.piece.now in
-    let d = newline_three_later s _ c.loop-i.i c.loop-i.invariant.1 (search rules) c.if-piece-i-eq10.false c.if-piece-i-eq10-2.false c.if-piece-i-eq10-3.false in
-    (newline_here s _ (c.loop-i.i + 3) d (search rules) c.if-piece-i-eq10-4.true, search rules)
+pub returns-then-fourth-eq10 : goal.returns-then-fourth-eq10
+returns-then-fourth-eq10 c =
+    let v = c.loop-left.invariant in
+    (newline_fourth _ _ c.in-len4-up.len_at_least v.0 v.1 c.if-first-eq10.false c.if-second-eq10.false c.if-third-eq10.false c.if-fourth-eq10.true, omega (arith, c.in-len4-up.len_at_least))
 
-pub loop-i-preserved : goal.loop-i-preserved
-loop-i-preserved c =
-    let s = c.args.piece.now in
-    let d = newline_three_later s _ c.loop-i.i c.loop-i.invariant.1 (search rules) c.if-piece-i-eq10.false c.if-piece-i-eq10-2.false c.if-piece-i-eq10-3.false in
-    (search rules, newline_later s _ (c.loop-i.i + 3) d (search rules) (c.loop-i.i + 4) (omega arith) c.if-piece-i-eq10-4.false)
+pub loop-left-preserved : goal.loop-left-preserved
+loop-left-preserved c =
+    let v = c.loop-left.invariant in
+    newline_later _ _ c.in-len4-up.len_at_least v.0 v.1 c.if-first-eq10.false c.if-second-eq10.false c.if-third-eq10.false c.if-fourth-eq10.false
 
-pub returns : goal.returns
-returns c = (c.newline_from.ensures.0 ∙ sym c.loop-i.invariant.1, c.newline_from.ensures.1)
+pub returns-in-Some : goal.returns-in-Some
+returns-in-Some c =
+    let v = c.loop-left.invariant in
+    newline_found _ _ v.0 v.1 (sym c.newline_in.ensures ∙ c.in-Some.is)
+
+pub returns-in-None : goal.returns-in-None
+returns-in-None c =
+    let v = c.loop-left.invariant in
+    (newline_missed _ _ v.0 v.1 (sym c.newline_in.ensures ∙ c.in-None.is), omega arith)

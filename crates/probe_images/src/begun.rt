@@ -1,0 +1,10 @@
+// A line that has begun.
+ghost use Rattle.std.specs.Prelude.{◌≤◌};
+
+// Of a line that has begun 395 bytes are kept: no longer line is readable.
+#[derive(Clone, Copy)]
+pub struct Line {
+    pub held: [u8; 395],
+    pub len: usize,
+    ghost small: { len ≤ 395 },
+}

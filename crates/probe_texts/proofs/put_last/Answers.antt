@@ -1,9 +1,0 @@
--- `probe_texts::put_last`: three fields, one after the other. Assumes nothing.
-use borrow.Author.Rules.{rules}
-use Rattle.text.proofs.Laws.{wrote_as, wrote_both}
-use Rattle.probe_texts.proofs.Writing.{last_text_lem}
-use Rattle.probe_texts.proofs.put_last.Goals as goal
-
-pub returns : goal.returns
-returns c =
-    (wrote_as (last_text_lem _ _ _) (wrote_both c.put_field-first.ensures.0 (wrote_both c.put_field-second.ensures.0 c.put_field.ensures.0)), search rules)
