@@ -9,13 +9,12 @@ use lib.Dec.{eqb, ltb}
 use lib.ListN.{length, take, drop, length-append, length-drop}
 use Rattle.trace_lines.specs.Lines.{line_of}
 use Rattle.trace_session.specs.Tracing.{part_in}
-use Rattle.trace_session.proofs.Laws.{traced_short}
+use Rattle.trace_session.specs.Bounds.{traced_short}
 use Rattle.text_logs.specs.Lines.{lines_of}
-use Rattle.text_logs.specs.Pieces.{given as given_by, at_end as end_by}
-use Rattle.trace_joins.specs.Readings.{Reading}
-use Rattle.trace_logs.specs.Pieces.{ended, last_text, Ends}
+use Rattle.text_logs.specs.Pieces.{given as given_by, at_end as end_by, Gives}
+use Rattle.trace_logs.specs.Pieces.{Reading, ended, last_text, at_end}
 use Rattle.compare_lines.specs.Comparing.{agrees, left_over, found, found_in}
-use Rattle.compare_lines.specs.Judging.{OneLine, same, Judges}
+use Rattle.compare_lines.specs.Judging.{OneLine, Takes, Decides}
 use Rattle.compare_lines.proofs.Plain.{answer_one}
 use Rattle.compare_pieces.specs.Meeting.{Seen, Settles}
 use Rattle.compare_pieces.proofs.Laws.{There, there, nothing}
@@ -37,8 +36,8 @@ last_one r = go (eqb (length r.begun) 0)
     go true some = absurd (some refl)
     go false some = answer_one r.session (line_of (part_in r.session) r.begun)
 
-pub last_there : (r : Reading) {words₀ out left words : List ℕ} {end : ℕ} → Ends r words₀ out 0 end left words → 26 ≤ length out → There (last_text r) out left end
-last_there r e room = there e.ends.wrote (last_short r) room
+pub last_there : (r : Reading) {out left : List ℕ} {end : ℕ} {after : Reading} → Gives (at_end r) out 0 end left after → 26 ≤ length out → There (last_text r) out left end
+last_there r e room = there e.wrote (last_short r) room
 
 -- no line is expected any more
 found_rest : (n : ℕ) (rest : List ℕ) (verdict : ℕ) → (length rest ≡ 0 → verdict ≡ agrees) → (0 < length rest → verdict ≡ left_over) → found_in n [] rest ≡ record { verdict = verdict; agreed = n; left = rest }
@@ -73,7 +72,7 @@ module _ (r : Reading) (answers : List ℕ) where
         ∙ ap (λ (k : ℕ). record { verdict = verdict; agreed = k; left = answers ++ more }) z);
   }
 
-  module _ {out left : List ℕ} {end : ℕ} (t : There (last_text r) out left end) (there_is : end ≡ 0 → ⊥) {judged taken : ℕ} (j : Judges (take (end - 0) left) answers judged taken) where
+  module _ {out left : List ℕ} {end : ℕ} (t : There (last_text r) out left end) (there_is : end ≡ 0 → ⊥) where
     one_last : OneLine (take (end - 0) left)
     one_last = rw (sym t.line) at (last_one r (λ z. there_is (t.ends ∙ z)))
 
@@ -83,23 +82,23 @@ module _ (r : Reading) (answers : List ℕ) where
     last_expects : (n : ℕ) (rest : List ℕ) → found_in n (last_text r) rest ≡ found_in n (take (end - 0) left ++ []) rest
     last_expects n rest = ap (λ (x : List ℕ). found_in n x rest) (sym t.line ∙ sym (append-nil (take (end - 0) left)))
 
-    pub settles_line : judged ≡ same → {verdict : ℕ} → (length answers - taken ≡ 0 → verdict ≡ agrees) → (0 < length answers - taken → verdict ≡ left_over) → Settles r answers verdict 1 taken
+    pub settles_line : {taken : ℕ} → Takes (take (end - 0) left) answers taken → {verdict : ℕ} → (length answers - taken ≡ 0 → verdict ≡ agrees) → (0 < length answers - taken → verdict ≡ left_over) → Settles r answers verdict 1 taken
     unfolding given_by
-    settles_line e {verdict} none some = record {
+    settles_line {taken} j {verdict} none some = record {
       within = j.within;
       settles = λ n more seen. (
           let z : suc n ≡ n + 1 = omega arith in
-          last_expects n (answers ++ more) ∙ j.goes_on e one_last n [] more (last_seen more seen)
+          last_expects n (answers ++ more) ∙ j.goes_on one_last n [] more (last_seen more seen)
           ∙ rest_with (suc n) taken verdict more seen (omega (arith, j.short, ap length t.line, last_short r)) j.within none some
           ∙ ap (λ (k : ℕ). record { verdict = verdict; agreed = k; left = drop taken answers ++ more }) z);
     }
 
-    pub settles_verdict : (judged ≡ same → ⊥) → Settles r answers judged 0 0
+    pub settles_verdict : {verdict : ℕ} → Decides (take (end - 0) left) answers verdict → Settles r answers verdict 0 0
     unfolding given_by
-    settles_verdict h = record {
+    settles_verdict {verdict} j = record {
       within = omega arith;
       settles = λ n more seen. (
           let z : n ≡ n + 0 = omega arith in
-          last_expects n (answers ++ more) ∙ j.decides h one_last n [] more (last_seen more seen)
-          ∙ ap (λ (k : ℕ). record { verdict = judged; agreed = k; left = answers ++ more }) z);
+          last_expects n (answers ++ more) ∙ j.decides one_last n [] more (last_seen more seen)
+          ∙ ap (λ (k : ℕ). record { verdict = verdict; agreed = k; left = answers ++ more }) z);
     }

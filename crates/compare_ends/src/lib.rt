@@ -2,67 +2,61 @@
 #![tactic(auto)]
 
 ghost use Rattle.std.specs.Prelude.{◌≡◌, ◌<◌, ◌≤◌, length};
-ghost use Rattle.trace_joins.specs.Readings.{reading_of};
-ghost use Rattle.compare_pieces.specs.Meeting.{Holding, Settles};
+ghost use Rattle.compare_lines.specs.Comparing.{agrees, left_over};
+ghost use Rattle.compare_lines.specs.Verdicts.{number_of};
+ghost use Rattle.compare_pieces.specs.Meeting.{Settles};
 
-use compare_lines::{AGREES, LEFT_OVER, SAME};
-use compare_pieces::Met;
+use compare_lines::Verdict;
+use text_logs::Log;
+use trace_session::Session;
+
+// What the end of the events came to: the verdict, how much of the answers is done with, how many lines agree, and where the line ends that was expected last.
+#[derive(Clone, Copy)]
+pub struct Settled {
+    pub verdict: Verdict,
+    pub answers: usize,
+    pub lines: usize,
+    pub end: usize,
+}
 
 // What is left when no line is expected any more.
-fn rest_verdict(left: usize) -> u8
-    ensures { (left ≡ 0 → result ≡ 0) × (0 < left → result ≡ 3) }
+fn rest_verdict(left: usize) -> Verdict
+    ensures none { left ≡ 0 → number_of result ≡ agrees }
+    ensures some { 0 < left → number_of result ≡ left_over }
 {
     if left == 0 {
-        return AGREES;
+        return Verdict::Agrees;
     }
-    LEFT_OVER
+    Verdict::LeftOver
 }
 
 // The end of the events: a last line without newline expects an answer if it holds a byte, and then nothing is expected.
-pub fn finish(
-    words: &mut [u64; 28],
-    rows: &mut [u32; 128],
-    next: &mut [u8; 128],
-    told: &mut [u64; 5],
-    kept: &mut [u8; 22],
-    held: &[u8],
-    len: usize,
-    line: &mut [u8],
-    answers: &[u8],
-) -> Met
-    requires { Holding words.old rows.old next.old told.old kept.old held.now len × (26 ≤ length line.old) }
-    ensures { Settles (reading_of words.old held.now len) answers.now result.verdict result.lines result.answers
-        × (length line.new ≡ length line.old) × (result.end ≤ length line.new) }
+pub fn finish(log: &mut Log<Session>, line: &mut [u8], answers: &[u8]) -> Settled
+    requires { 26 ≤ length line.old }
+    ensures settles { Settles log.old answers.now (number_of result.verdict) result.lines result.answers }
+    ensures line { (length line.new ≡ length line.old) × (result.end ≤ length line.new) }
 {
-    let end = trace_logs::finish(words, rows, next, told, kept, held, len, line, 0);
+    let end = log.finish(line, 0);
     if end == 0 {
-        return Met {
+        return Settled {
             verdict: rest_verdict(answers.len()),
-            len: 0,
-            events: 0,
             answers: 0,
             lines: 0,
             end,
         };
     }
-    let judged = compare_lines::judge(&line[0..end], answers);
-    let taken = judged.taken;
-    if judged.verdict == SAME {
-        return Met {
+    match compare_lines::judge(&line[0..end], answers) {
+        Ok(taken) => Settled {
             verdict: rest_verdict(answers.len() - taken),
-            len: 0,
-            events: 0,
             answers: taken,
             lines: 1,
             end,
-        };
-    }
-    Met {
-        verdict: judged.verdict,
-        len,
-        events: 0,
-        answers: 0,
-        lines: 0,
-        end,
+        },
+        Err(verdict) => Settled {
+            verdict,
+            answers: 0,
+            lines: 0,
+            end,
+        },
     }
 }

@@ -14,7 +14,7 @@ use Rattle.text_pieces.specs.Pieces.{newline_at, taken_of}
 use Rattle.text_answers.specs.Answers.{newline}
 use Rattle.text_logs.specs.Lines.{lines_of}
 use Rattle.compare_lines.specs.Comparing.{departs, ends_early, first_line, after_line, found, found_in}
-use Rattle.compare_lines.specs.Judging.{OneLine, same, Judges}
+use Rattle.compare_lines.specs.Judging.{OneLine, Takes, Decides}
 
 -- ---- words
 starts_on : (word more : List ℕ) → starts_with word (word ++ more) ≡ true
@@ -211,34 +211,22 @@ module _ (line answers : List ℕ) where
   body : length line - 1 - 0 ≡ length line - 1
   body = omega arith
 
-  pub judges_ends : length answers ≡ 0 → Judges line answers ends_early 0
-  judges_ends z = record {
-    within = omega arith;
-    short = omega arith;
-    goes_on = λ e. absurd (omega (arith, e));
-    decides = λ e one n expected more all. ends one n expected answers more all z;
-  }
+  pub decides_ends : length answers ≡ 0 → Decides line answers ends_early
+  decides_ends z = record { decides = λ one n expected more all. ends one n expected answers more all z }
 
-  pub judges_next : starts_with line answers ≡ true → Judges line answers same (length line)
-  judges_next e = record {
+  pub takes_next : starts_with line answers ≡ true → Takes line answers (length line)
+  takes_next e = record {
     within = omega (arith, ap length (starts_is line answers e), length-append line (drop (length line) answers));
     short = omega arith;
-    goes_on = λ v one n expected more all. next one n expected answers more all e;
-    decides = λ v. absurd (v refl);
+    goes_on = λ one n expected more all. next one n expected answers more all e;
   }
 
-  pub judges_last : 0 < length answers → is_word (take (length line - 1 - 0) line) answers ≡ true → Judges line answers same (length answers)
-  judges_last some e = record {
+  pub takes_last : 0 < length answers → is_word (take (length line - 1 - 0) line) answers ≡ true → Takes line answers (length answers)
+  takes_last some e = record {
     within = omega arith;
     short = omega (arith, ap length (word_is (take (length line - 1 - 0) line) answers e), length-take (length line - 1 - 0) line);
-    goes_on = λ v one n expected more all. last one n expected answers more all some (rw body at e);
-    decides = λ v. absurd (v refl);
+    goes_on = λ one n expected more all. last one n expected answers more all some (rw body at e);
   }
 
-  pub judges_parts : 0 < length answers → starts_with line answers ≡ false → is_word (take (length line - 1 - 0) line) answers ≡ false → Judges line answers departs 0
-  judges_parts some next last = record {
-    within = omega arith;
-    short = omega arith;
-    goes_on = λ e. absurd (omega (arith, e));
-    decides = λ e one n expected more all. parts one n expected answers more all some next (rw body at last);
-  }
+  pub decides_parts : 0 < length answers → starts_with line answers ≡ false → is_word (take (length line - 1 - 0) line) answers ≡ false → Decides line answers departs
+  decides_parts some next last = record { decides = λ one n expected more all. parts one n expected answers more all some next (rw body at last) }

@@ -1,3 +1,4 @@
 pub mod Comparing
 pub mod Judging
+pub mod Verdicts
 pub mod Which

@@ -9,10 +9,12 @@ use lib.Seq.{drop-drop, drop-length}
 use Rattle.text_pieces.specs.Pieces.{newline_at}
 use Rattle.text.proofs.Laws.{rest as tail}
 use Rattle.trace_logs.specs.Logs.{header}
-use Rattle.trace_joins.specs.Readings.{Reading}
-use Rattle.trace_logs.specs.Pieces.{opened}
+use Rattle.trace_logs.specs.Pieces.{Reading, opened}
 use Rattle.compare_lines.specs.Comparing.{Found, first_line, compared, part_from}
-use Rattle.compare_lines.specs.Judging.{same, Judges}
+use Rattle.compare_lines.specs.Judging.{Takes, Decides}
+use Rattle.std.specs.Prelude.{Option, None, Some}
+use Rattle.compare_lines.specs.Verdicts.{number_of}
+use Rattle.compare_lines.specs.declared.Verdict.{Verdict}
 use Rattle.compare_pieces.specs.Meeting.{found_onward, Unless, Meets, Settles}
 use Rattle.compare_pieces.proofs.Laws.{There}
 use Rattle.compare_pieces.proofs.Whole.{header_agrees, whole_header}
@@ -25,23 +27,23 @@ module _ {r : Reading} (start : r ≡ opened) (events rest : List ℕ) where
       ap (λ (x : Reading). found_onward n x (events ++ []) (rest ++ [])) start ∙ ap (λ (x : List ℕ). found_onward n opened x (rest ++ [])) (append-nil events)
       ∙ ap (found_onward n opened events) (append-nil rest)
 
-  pub finds_decided : {verdict lines told taken : ℕ} {after : Reading} → Meets (Unless true) r events rest verdict lines told taken after → (verdict ≡ same → ⊥) → FindsOn events rest verdict (drop taken rest)
-  finds_decided {verdict} {lines} {told} {taken} m h =
-      let found : (n : ℕ) → found_onward n opened events rest ≡ record { verdict = verdict; agreed = n + lines; left = drop taken rest ++ [] } =
-      λ n. (sym (whole n) ∙ m.decides h n [] [] (λ u. refl)) in
+  pub finds_decided : {verdict : Option Verdict} {lines told taken : ℕ} {after : Reading} → Meets (Unless true) r events rest verdict lines told taken after → (v : Verdict) → verdict ≡ Some v → FindsOn events rest (number_of v) (drop taken rest)
+  finds_decided {verdict} {lines} {told} {taken} m v e =
+      let found : (n : ℕ) → found_onward n opened events rest ≡ record { verdict = number_of v; agreed = n + lines; left = drop taken rest ++ [] } =
+      λ n. (sym (whole n) ∙ m.decides v e n [] [] (λ u. refl)) in
       record {
         verdict_on = λ n. sym (ap (λ (f : Found). f.verdict) (found n));
         left_on = λ n. sym (ap (λ (f : Found). f.left) (found n) ∙ append-nil (drop taken rest));
       }
 
-  module _ {lines told taken : ℕ} {after : Reading} (m : Meets (Unless true) r events rest same lines told taken after) (all : told ≡ length events)
+  module _ {lines told taken : ℕ} {after : Reading} {verdict-yet : Option Verdict} (m : Meets (Unless true) r events rest verdict-yet lines told taken after) (none : verdict-yet ≡ None) (all : told ≡ length events)
       {verdict lines' taken' : ℕ} (s : Settles after (take (length rest - taken) (drop taken rest)) verdict lines' taken') where
     settled : Settles after (drop taken rest) verdict lines' taken'
     settled = rw (tail taken rest) at s
 
     settled_on : (n : ℕ) → found_onward n opened events rest ≡ record { verdict = verdict; agreed = n + lines + lines'; left = drop taken' (drop taken rest) ++ [] }
     settled_on n =
-        sym (whole n) ∙ m.goes_on refl n [] [] (λ u. refl)
+        sym (whole n) ∙ m.goes_on none n [] [] (λ u. refl)
         ∙ ap (λ (x : List ℕ). found_onward (n + lines) after x (drop taken rest ++ [])) (append-nil (drop told events) ∙ ap (λ (k : ℕ). drop k events) all ∙ drop-length events)
         ∙ settled.settles (n + lines) [] (λ u. refl)
 
@@ -68,21 +70,21 @@ finds events answers {verdict} {from} {to} v l h a =
     }
 
 -- by all of them
-module _ (events answers : List ℕ) {out left : List ℕ} {end : ℕ} (t : There header out left end) {verdict taken : ℕ} (j : Judges (take (end - 0) left) answers verdict taken) where
+module _ (events answers : List ℕ) {out left : List ℕ} {end : ℕ} (t : There header out left end) where
   all : compared events answers ≡ compared events (answers ++ [])
   all = ap (compared events) (sym (append-nil answers))
 
-  pub finds_header : (verdict ≡ same → ⊥) → {to : ℕ} → LineAt answers 0 to → Finds events answers verdict 0 to
-  finds_header h a =
-      let e : compared events answers ≡ record { verdict = verdict; agreed = 0; left = answers ++ [] } = all ∙ whole_header events answers [] t j (λ u. refl) h in
+  pub finds_header : {verdict : ℕ} → Decides (take (end - 0) left) answers verdict → {to : ℕ} → LineAt answers 0 to → Finds events answers verdict 0 to
+  finds_header {verdict} j a =
+      let e : compared events answers ≡ record { verdict = verdict; agreed = 0; left = answers ++ [] } = all ∙ whole_header events answers [] t (λ u. refl) j in
       finds events answers (sym (ap (λ (f : Found). f.verdict) e)) (sym (ap (λ (f : Found). f.left) e ∙ append-nil answers)) (omega arith) a
 
-  pub finds_rest : verdict ≡ same → {found from to : ℕ} → FindsOn events (take (length answers - taken) (drop taken answers)) found (drop from (take (length answers - taken) (drop taken answers))) → from ≤ length (take (length answers - taken) (drop taken answers))
+  pub finds_rest : {taken : ℕ} → Takes (take (end - 0) left) answers taken → {found from to : ℕ} → FindsOn events (take (length answers - taken) (drop taken answers)) found (drop from (take (length answers - taken) (drop taken answers))) → from ≤ length (take (length answers - taken) (drop taken answers))
       → LineAt answers (taken + from) to → Finds events answers found (taken + from) to
-  finds_rest e {found} {from} {to} f h a =
+  finds_rest {taken} j {found} {from} {to} f h a =
       let g : FindsOn events (drop taken answers) found (drop from (drop taken answers)) = rw (tail taken answers) at f in
       let c : compared events answers ≡ found_onward 1 opened events (drop taken answers) =
-      all ∙ header_agrees events answers [] t j (λ u. refl) e ∙ ap (found_onward 1 opened events) (append-nil (drop taken answers)) in
+      all ∙ header_agrees events answers [] t (λ u. refl) j ∙ ap (found_onward 1 opened events) (append-nil (drop taken answers)) in
       finds events answers (g.verdict_on 1 ∙ sym (ap (λ (x : Found). x.verdict) c)) (sym (drop-drop from taken answers) ∙ g.left_on 1 ∙ sym (ap (λ (x : Found). x.left) c))
       (omega (arith, h, ap length (tail taken answers), length-drop taken answers, j.within)) a
 

@@ -1,7 +1,7 @@
 // What a comparison says: the verdict on standard output, and for a person on standard error what is the matter with which line.
 #![tactic(auto)]
 
-use compare_lines::{AGREES, DEPARTS, ENDS_EARLY};
+use compare_lines::Verdict;
 use std::io;
 
 // Of a longer line a person is shown so many bytes.
@@ -25,61 +25,60 @@ fn tell_line(said: &impl Print, label: &[u8], text: &[u8]) {
     tell(said, b"\n");
 }
 
-// A count that stays where it is when it can't grow.
-pub fn counted(count: u64, more: u64) -> u64 {
-    if u64::MAX - count < more {
-        return count;
+// What was found: how many lines agree before it, and of the line that decides its event, what was expected, and the answers from there on.
+#[derive(Clone, Copy)]
+pub struct Finding<'a> {
+    pub verdict: Verdict,
+    pub agreed: u64,
+    pub event: &'a [u8],
+    pub expected: &'a [u8],
+    pub found: &'a [u8],
+}
+
+impl Finding<'_> {
+    fn tell_agreed(&self, said: &impl Print) {
+        let agreed = self.agreed;
+        let what = if agreed == 1 {
+            "line agrees"
+        } else {
+            "lines agree"
+        };
+        let _ = println!(said; "compare: {agreed} {what}");
     }
-    count + more
-}
 
-fn tell_number(said: &impl Print, agreed: u64, what: &str) {
-    let number = counted(agreed, 1);
-    let _ = println!(said; "compare: line {number} {what}");
-}
+    // The number of the line that decides, and what is the matter with it.
+    fn tell_number(&self, said: &impl Print, what: &str) {
+        let number = self.agreed.saturating_add(1);
+        let _ = println!(said; "compare: line {number} {what}");
+    }
 
-fn tell_agreed(said: &impl Print, agreed: u64) {
-    let what = if agreed == 1 {
-        "line agrees"
-    } else {
-        "lines agree"
-    };
-    let _ = println!(said; "compare: {agreed} {what}");
-}
+    // What a person is told.
+    fn tell(&self, said: &impl Print) {
+        match self.verdict {
+            Verdict::Agrees => self.tell_agreed(said),
+            Verdict::Departs => {
+                self.tell_number(said, "departs");
+                tell_line(said, b"event: ", self.event);
+                tell_line(said, b"expected: ", self.expected);
+                tell_line(said, b"found: ", self.found);
+            }
+            Verdict::EndsEarly => {
+                self.tell_number(said, "is missing");
+                tell_line(said, b"event: ", self.event);
+                tell_line(said, b"expected: ", self.expected);
+            }
+            Verdict::LeftOver => {
+                self.tell_number(said, "is left over");
+                tell(said, b"expected: nothing, the events end before it\n");
+                tell_line(said, b"found: ", self.found);
+            }
+        }
+    }
 
-// The verdict and what a person is told: how many lines agree, the event of the next line, the line that was expected, and the answers from that line on.
-pub fn conclude(
-    out: &impl Print,
-    said: &impl Print,
-    verdict: u8,
-    agreed: u64,
-    event: &[u8],
-    expected: &[u8],
-    found: &[u8],
-) -> io::Result<()> {
-    match verdict {
-        AGREES => {
-            tell_agreed(said, agreed);
-            out.write_all(b"agrees\n")
-        }
-        DEPARTS => {
-            tell_number(said, agreed, "departs");
-            tell_line(said, b"event: ", event);
-            tell_line(said, b"expected: ", expected);
-            tell_line(said, b"found: ", found);
-            out.write_all(b"departs\n")
-        }
-        ENDS_EARLY => {
-            tell_number(said, agreed, "is missing");
-            tell_line(said, b"event: ", event);
-            tell_line(said, b"expected: ", expected);
-            out.write_all(b"ends early\n")
-        }
-        _ => {
-            tell_number(said, agreed, "is left over");
-            tell(said, b"expected: nothing, the events end before it\n");
-            tell_line(said, b"found: ", found);
-            out.write_all(b"left over\n")
-        }
+    // What a person is told, and then the verdict.
+    pub fn conclude(&self, out: &impl Print, said: &impl Print) -> io::Result<()> {
+        self.tell(said);
+        let verdict = self.verdict;
+        println!(out; "{verdict}")
     }
 }

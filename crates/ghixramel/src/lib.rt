@@ -151,7 +151,7 @@ pub fn ghixramel_compare(
         × (part.new ≡ part_from answers.now (compared events.now answers.now) ∷ newline_at (compared events.now answers.now).left ∷ []) }
 {
     let found = compare_logs::find(events, answers);
-    *verdict = [found.verdict];
+    *verdict = [u8::from(found.verdict)];
     *part = [found.from as u64, (found.to - found.from) as u64];
     DONE
 }

@@ -77,6 +77,14 @@ impl<A: AnswersLines> Log<A> {
         }
     }
 
+    // What is kept of the line that has begun.
+    pub fn begun(&self) -> &[u8]
+        ensures value { result.now ≡ self.now.begun }
+        ensures small { length self.now.begun ≤ 33 }
+    {
+        self.begun.as_slice()
+    }
+
     // The line that has begun ends with this part, and is answered; one that lies whole in its piece is read where it lies.
     fn end_line(&mut self, part: &[u8], out: &mut [u8], at: usize) -> usize
         requires { at + A.room ≤ length out.old }

@@ -1,61 +1,40 @@
 -- `compare_pieces::meet_line`: the first line of the events expects nothing yet, or a line that is the next or decides. Assumes nothing.
 use native.Mathlib.Omega.{arith}
 use mathlib.Core.Path.{sym}
-use Rattle.trace_session.specs.Tracing.{session_of}
-use Rattle.trace_joins.specs.Readings.{reading_of}
-use Rattle.text_logs.proofs.Feeding.{begun_small, taken_some}
+use Rattle.std.proofs.lemmas.Option.{none-some}
+use Rattle.text_logs.proofs.Feeding.{taken_some}
 use Rattle.compare_pieces.proofs.Laws.{first_there, some_there, meets_nothing, meets_line, meets_verdict}
 use Rattle.compare_pieces.proofs.meet_line.Goals as goal
-
-pub first_line-took-requires : goal.first_line-took-requires
-first_line-took-requires c =
-    let h = c.requires.0 in
-    (h.kept_device, h.small, h.whole, c.requires.2, h.beside)
 
 pub returns-then-end-eq0 : goal.returns-then-end-eq0
 returns-then-end-eq0 c =
     let g = c.first_line-took.ensures in
-    let x = c.args in
-    let r = reading_of x.words.now x.held.now x.len in
-    let t = first_there r x.events.now g.0 c.requires.2 in (
-      meets_nothing r x.events.now (begun_small (session_of x.words.now) x.held.now x.len c.requires.0.small) c.requires.1 x.answers.now g.0.gives.goes_on g.1 (omega (arith, t.ends, c.if-end-eq0.true)),
-      record { kept_device = g.0.holds.kept; beside = g.3; small = g.0.gives.small; whole = g.0.gives.whole },
-      t.long,
-      t.within,
-      λ v. rw (sym g.1) at (taken_some x.events.now c.requires.1).0,
-    )
+    let t = first_there c.args.log.now c.args.events.now g.gives c.requires.1 in record {
+      meets = meets_nothing c.args.log.now c.args.events.now c.begun.ensures.small c.requires.0 c.args.answers.now g.gives.goes_on g.takes (omega (arith, t.ends, c.if-end-eq0.true));
+      line = (t.long, t.within);
+      some = λ v. rw (sym g.takes) at (taken_some c.args.events.now c.requires.0).0;
+    }
 
 pub slice_bounds-judge-end : goal.slice_bounds-judge-end
-slice_bounds-judge-end c =
-    (first_there (reading_of c.args.words.now c.args.held.now c.args.len) c.args.events.now c.first_line-took.ensures.0 c.requires.2).within
+slice_bounds-judge-end c = (first_there c.args.log.now c.args.events.now c.first_line-took.ensures.gives c.requires.1).within
 
-pub judge-judged-requires : goal.judge-judged-requires
-judge-judged-requires c =
-    let t = first_there (reading_of c.args.words.now c.args.held.now c.args.len) c.args.events.now c.first_line-took.ensures.0 c.requires.2 in
-    some_there t c.if-end-eq0.false
+pub judge-requires : goal.judge-requires
+judge-requires c = some_there (first_there c.args.log.now c.args.events.now c.first_line-took.ensures.gives c.requires.1) c.if-end-eq0.false
 
-pub returns-then-judged-eq-SAME : goal.returns-then-judged-eq-SAME
-returns-then-judged-eq-SAME c =
+pub returns-in-Ok : goal.returns-in-Ok
+returns-in-Ok c =
     let g = c.first_line-took.ensures in
-    let x = c.args in
-    let r = reading_of x.words.now x.held.now x.len in
-    let t = first_there r x.events.now g.0 c.requires.2 in (
-      meets_line r x.events.now (begun_small (session_of x.words.now) x.held.now x.len c.requires.0.small) c.requires.1 x.answers.now g.0.gives.goes_on g.1 t c.if-end-eq0.false c.judge-judged.ensures c.if-judged-eq-SAME.true,
-      record { kept_device = g.0.holds.kept; beside = g.3; small = g.0.gives.small; whole = g.0.gives.whole },
-      t.long,
-      t.within,
-      λ v. rw (sym g.1) at (taken_some x.events.now c.requires.1).0,
-    )
+    let t = first_there c.args.log.now c.args.events.now g.gives c.requires.1 in record {
+      meets = meets_line c.args.log.now c.args.events.now c.begun.ensures.small c.requires.0 c.args.answers.now g.gives.goes_on g.takes t c.if-end-eq0.false c.in-Ok.ensures;
+      line = (t.long, t.within);
+      some = λ v. rw (sym g.takes) at (taken_some c.args.events.now c.requires.0).0;
+    }
 
-pub returns : goal.returns
-returns c =
+pub returns-in-Err : goal.returns-in-Err
+returns-in-Err c =
     let g = c.first_line-took.ensures in
-    let x = c.args in
-    let r = reading_of x.words.now x.held.now x.len in
-    let t = first_there r x.events.now g.0 c.requires.2 in (
-      meets_verdict r x.events.now (begun_small (session_of x.words.now) x.held.now x.len c.requires.0.small) c.requires.1 x.answers.now g.0.gives.goes_on g.1 t c.if-end-eq0.false c.judge-judged.ensures c.if-judged-eq-SAME.false _,
-      record { kept_device = g.0.holds.kept; beside = g.3; small = c.requires.0.small; whole = g.0.gives.whole },
-      t.long,
-      t.within,
-      λ v. absurd (c.if-judged-eq-SAME.false v),
-    )
+    let t = first_there c.args.log.now c.args.events.now g.gives c.requires.1 in record {
+      meets = meets_verdict c.args.log.now c.args.events.now c.begun.ensures.small c.requires.0 c.args.answers.now g.gives.goes_on g.takes t c.if-end-eq0.false _ c.in-Err.ensures _;
+      line = (t.long, t.within);
+      some = λ v. absurd (none-some _ (sym v));
+    }
