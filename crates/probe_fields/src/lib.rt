@@ -80,7 +80,7 @@ fn number_at(line: &[u8], at: usize, width: usize, most: u64) -> u64
     text::field(&line[at..at + width], width, most).unwrap_or(0)
 }
 
-// Two digits.
+// Two digits. A function for each width and no generic one: each has its own type, and a cast that loses nothing.
 pub fn byte_at(line: &[u8], at: usize) -> u8
     requires { at + 2 ≤ length line.now }
     ensures { result ≡ number_at line.now at 2 }

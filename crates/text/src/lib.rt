@@ -111,7 +111,7 @@ fn low_digit(n: u64) -> u8
     digit_byte((n % 16) as u8)
 }
 
-// Puts the text into out from at on, and says where it ends.
+// Puts the text into out from at on, and says where it ends. No `write!`: the memory is lent, nothing can fail, and contracts count the places.
 pub fn put(out: &mut [u8], at: usize, text: &[u8]) -> usize
     requires { at + length text.now ≤ length out.old }
     ensures { Wrote out.old at text.now result out.new }

@@ -14,7 +14,7 @@ const LONGEST: usize = 32;
 // The last address choice.
 const MOST_CHOICE: u64 = 3;
 
-// What a line says. Parts: 0 the 24-pin part, 1 its sister. Event kinds: 0 START, 1 STOP, 2 byte, 3 fetch, 4 levels, 5 hardware reset.
+// What a line says. Parts: 0 the 24-pin part, 1 its sister. Event kinds: 0 START, 1 STOP, 2 byte, 3 fetch, 4 levels, 5 hardware reset: the device takes these numbers, as C does.
 #[derive(Clone, Copy)]
 pub enum Line {
     Device { part: u64, choice: u8, levels: u64 },
