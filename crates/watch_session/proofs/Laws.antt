@@ -1,12 +1,12 @@
 -- Each of the code's cases says what `watched` gives for its line. Assumes nothing.
 use mathlib.Core.Path.{◌≡◌, refl, ap, sym, ◌∙◌}
 use mathlib.Core.Bool.{Bool, true, false, cond, ◌&&◌}
-use mathlib.Core.List.{List}
-use Prim.Native.Nat.{ℕ, suc, ◌^◌, ◌<◌}
+use mathlib.Core.List.{List, ◌∷◌, ◌++◌}
+use Prim.Native.Nat.{ℕ, suc, ◌+◌, ◌^◌, ◌<◌, ◌≤◌}
 use native.Mathlib.Omega.{arith}
 use borrow.Author.Tests.{eq-eqb, ne_eqb, lt-ltb, le-leb}
 use lib.Dec.{eqb, ltb}
-use lib.ListN.{get_or}
+use lib.ListN.{length, get_or}
 use Rattle.std.specs.Prelude.{Option, Some, None}
 use Rattle.bits.specs.Bits.{bit}
 use Rattle.map.specs.Map.{Part, part_of}
@@ -19,14 +19,14 @@ use Rattle.device_rules.proofs.Images.{taken}
 use Rattle.device_demands.proofs.Runs.{step_taken}
 use Rattle.words_state.specs.Packed.{state_in, Packed}
 use Rattle.words_state.proofs.Judging.{image_fits_lem}
-use Rattle.text.specs.Text.{Wrote}
+use Rattle.text.specs.Text.{hex_text, Wrote}
 use Rattle.text.proofs.Laws.{wrote_as}
 use Rattle.text_logs.specs.Lines.{Says}
 use Rattle.text_logs.proofs.Laws.{says_as}
 use Rattle.trace_lines.specs.Lines.{Taken}
 use Rattle.trace_lines.proofs.Laws.{taken_fits}
 use Rattle.trace_lines.specs.declared.Line.TheVariants.{Event as TracedEvent}
-use Rattle.trace_session.specs.Tracing.{Session as TraceSession, session_of, part_number, traced, told_by as traceTold, part_in as trace_part, Kept as TraceKept}
+use Rattle.trace_session.specs.Tracing.{Session as TraceSession, session_of, part_number, traced, told_by as traceTold, part_in as trace_part, Kept as TraceKept, standing_line}
 use Rattle.trace_session.specs.Tracing.Session.{NoDevice as NotTraced, With as Traced}
 use Rattle.trace_session.proofs.Laws.{part_here}
 use Rattle.loss_rules.specs.Marks.{Marks, SignedOff, quiet_and_healthy, is_reset, noted, marks_after, marks_fit, new_marks, marked_step, sign_refused, sign_off}
@@ -34,7 +34,9 @@ use Rattle.loss_rules.proofs.Laws.{fit_after, fit_signed}
 use Rattle.loss_sets.specs.Sets.{marks_in, MakesMarks}
 use Rattle.loss_marks.specs.Lent.{Signs}
 use Rattle.loss_marks.proofs.Stepping.{status_small, by_outcome}
+use Rattle.text_answers.specs.Answers.{digits_of, newline, shown_line}
 use Rattle.watch_answers.specs.Marked.{marked_line, refusal_line}
+use Rattle.watch_answers.proofs.Lines.{with_marks, room_left}
 use Rattle.watch_lines.specs.Watching.{said_by}
 use Rattle.watch_lines.specs.declared.Said.{Said}
 use Rattle.watch_lines.specs.declared.Said.TheVariants.{Device, Event, SignOff, Unreadable}
@@ -80,17 +82,20 @@ device_there c {w} {s} goes kept = go (ltb (get_or w 27 0) 2) refl (ap number_af
     go true e part state = let same : get_or w 27 0 ≡ c = omega (arith, part) in (rw same at (kept e), rw same at state)
     go false e part state = absurd (omega (arith, part))
 
--- a device of part c, its words, and marks that fit it
-pub record Standing (x : TraceSession) (c : ℕ) (w m : List ℕ) : Type 0 where
+-- a device of part c, its words, marks that fit it, and the session that these are
+pub record Standing (x : TraceSession) (y : Session) (c : ℕ) (w m : List ℕ) : Type 0 where
   pub packed : Packed c w
   pub is : x ≡ Traced c (state_in (part_of c) w)
   pub fits : marks_fit (part_of c) (marks_in m) ≡ true
+  pub seen : With c (state_in (part_of c) w) (marks_in m) ≡ y
 
-pub standing : (x : TraceSession) (c : ℕ) {w : List ℕ} (m : List ℕ) → part_number x ≡ Some c → TraceKept w × (session_of w ≡ x) → fitting x (marks_in m) ≡ true → Standing x c w m
-standing x c m e words fit =
+pub standing : {x : TraceSession} {y : Session} {c : ℕ} {w : List ℕ} (m : List ℕ) → watching x (marks_in m) ≡ y → part_number x ≡ Some c → TraceKept w × (session_of w ≡ x) → fitting x (marks_in m) ≡ true
+    → Standing x y c w m
+standing {x} {y} {c} m view e words fit =
     let d = has_device x c e in
     let there = device_there c (words.1 ∙ d.1) words.0 in
-    record { packed = there.0; is = d.1 ∙ ap (Traced c) (sym there.1); fits = sym (fitting_device c (marks_in m) d.1) ∙ fit }
+    let is = d.1 ∙ ap (Traced c) (sym there.1) in
+    record { packed = there.0; is = is; fits = sym (fitting_device c (marks_in m) is) ∙ fit; seen = sym (watching_device c (marks_in m) is) ∙ view }
 
 -- ---- a line of a device and its marks
 pub told_says : (c : ℕ) (o : Outcome) {x : TraceSession} (m : List ℕ) {marks : Marks} {lent left : List ℕ} {at end : ℕ} → x ≡ Traced c o.after → marks_in m ≡ marks
@@ -109,7 +114,7 @@ pub marks_made : (c healthy : ℕ) {number : ℕ} {m m' : List ℕ} → healthy 
 marks_made c healthy h g = g.made (g.number_is ∙ ap (λ (t : Bool). cond {A = ℕ} t 0 2) (lt-ltb healthy (2 ^ (part_of c).width) h))
 
 -- ---- an event of a device: what a trace says of it, and the marks
-module _ (c : ℕ) (w m : List ℕ) (k : Packed c w) (fits : marks_fit (part_of c) (marks_in m) ≡ true) (kind arg : ℕ) (t : Taken (part_of c) kind arg) where
+module _ {x : TraceSession} {y : Session} {c : ℕ} {w m : List ℕ} (d : Standing x y c w m) (kind arg : ℕ) (asked : Taken (part_in y) kind arg) where
   abbrev p : Part
   p = part_of c
 
@@ -119,42 +124,54 @@ module _ (c : ℕ) (w m : List ℕ) (k : Packed c w) (fits : marks_fit (part_of 
   abbrev o : Outcome
   o = stepped p here kind arg
 
+  takes : Taken p kind arg
+  takes = rw (sym d.seen) at asked
+
   not_refused : refusal p here kind arg ≡ 0
   unfolding refusal
-  not_refused = simp (image_fits_lem c w k, le-leb kind 5 t.0, taken_fits p kind arg t)
+  not_refused = simp (image_fits_lem c w d.packed, le-leb kind 5 takes.0, taken_fits p kind arg takes)
 
-  pub event_answers : eqb (answer_kind o.answer) 4 ≡ false
+  event_answers : eqb (answer_kind o.answer) 4 ≡ false
   event_answers = ap (λ (x : Outcome). eqb (answer_kind x.answer) 4) (sym (taken p here kind arg not_refused)) ∙ step_taken p here (event_of kind arg)
-
-  -- what a trace says of it is what it shows
-  pub event_traced : {x : TraceSession} → x ≡ Traced c here → traced x (TracedEvent kind arg) ≡ traceTold c o
-  unfolding traced
-  event_traced is = ap (λ (y : TraceSession). traced y (TracedEvent kind arg)) is
 
   of_step : marked_by c (marked_step p here (marks_in m) kind arg) ≡ told_by c o (marks_after p here (event_of kind arg) o (marks_in m))
   unfolding marked_step
-  of_step = ap (λ (t : Bool). told_by c (cond t o (out (Refused 3) here)) (marks_after p here (event_of kind arg) (cond t o (out (Refused 3) here)) (marks_in m))) fits
+  of_step = ap (λ (t : Bool). told_by c (cond t o (out (Refused 3) here)) (marks_after p here (event_of kind arg) (cond t o (out (Refused 3) here)) (marks_in m))) d.fits
 
-  watched_event : marked_by c (marked_step p here (marks_in m) kind arg) ≡ watched (With c here (marks_in m)) (Event kind arg)
+  watched_event : marked_by c (marked_step p here (marks_in m) kind arg) ≡ watched y (Event kind arg)
   unfolding watched
-  watched_event = refl
+  watched_event = ap (λ (y : Session). watched y (Event kind arg)) d.seen
 
-  -- the session after it, its words, and the marks that were noted
-  module _ {x : TraceSession} {w' : List ℕ} {resets : Bool} (m' : List ℕ) (goes : x ≡ Traced c o.after) (same : session_of w' ≡ x) (kept : TraceKept w') (resets-are : resets ≡ is_reset here (event_of kind arg))
-      (into : (p : Part) → marks_fit p (marks_in m) ≡ true → get_or w 19 0 < 2 ^ p.width → get_or w' 19 0 < 2 ^ p.width → marks_in m' ≡ noted p resets (get_or w 19 0) (get_or w' 19 0) (marks_in m)) where
-    -- the marks are those of the rules
-    marks_are : marks_in m' ≡ marks_after p here (event_of kind arg) o (marks_in m)
-    marks_are =
-        let after = device_there c (same ∙ goes) kept in
-        into p fits (status_small c w k) (status_small c w' after.0)
-        ∙ ap (λ (r : Bool). noted p r (get_or w 19 0) (get_or w' 19 0) (marks_in m)) resets-are
-        ∙ by_outcome p here kind arg (marks_in m) (ap (out o.answer) after.1) false event_answers
+  -- what a trace says of it is what it shows
+  event_traced : traced x (TracedEvent kind arg) ≡ traceTold c o
+  unfolding traced
+  event_traced = ap (λ (x : TraceSession). traced x (TracedEvent kind arg)) d.is
 
-    pub event_fits : fitting x (marks_in m') ≡ true
-    event_fits = fitting_device c (marks_in m') goes ∙ ap (marks_fit p) marks_are ∙ fit_after p here (event_of kind arg) o (marks_in m) fits
+  module _ {x' : TraceSession} {lent middle : List ℕ} {at end : ℕ} (told : Says (traced x (TracedEvent kind arg)) lent at end middle x') where
+    pub event_room : at + 36 ≤ length lent → (0 < end) × (end + 10 ≤ length middle)
+    event_room room = room_left c o (says_as event_traced told).says room
 
-    pub event_says : {lent left : List ℕ} {at end : ℕ} → Wrote lent at (marked_line p o (get_or m' 0 0)) end left → Says (watched (With c here (marks_in m)) (Event kind arg)) lent at end left (watching x (marks_in m'))
-    event_says v = says_as (sym of_step ∙ watched_event) (told_says c o m' goes marks_are v)
+    -- the words after it, and the marks that were noted
+    module _ {w' : List ℕ} {resets : Bool} (m' : List ℕ) (after : TraceKept w' × (session_of w' ≡ x')) (resets-are : resets ≡ is_reset here (event_of kind arg))
+        (into : (p : Part) → marks_fit p (marks_in m) ≡ true → get_or w 19 0 < 2 ^ p.width → get_or w' 19 0 < 2 ^ p.width → marks_in m' ≡ noted p resets (get_or w 19 0) (get_or w' 19 0) (marks_in m)) where
+      goes : x' ≡ Traced c o.after
+      goes = (says_as event_traced told).goes_on
+
+      -- the marks are those of the rules
+      marks_are : marks_in m' ≡ marks_after p here (event_of kind arg) o (marks_in m)
+      marks_are =
+          let there = device_there c (after.1 ∙ goes) after.0 in
+          into p d.fits (status_small c w d.packed) (status_small c w' there.0)
+          ∙ ap (λ (r : Bool). noted p r (get_or w 19 0) (get_or w' 19 0) (marks_in m)) resets-are
+          ∙ by_outcome p here kind arg (marks_in m) (ap (out o.answer) there.1) false event_answers
+
+      pub event_fits : fitting x' (marks_in m') ≡ true
+      event_fits = fitting_device c (marks_in m') goes ∙ ap (marks_fit p) marks_are ∙ fit_after p here (event_of kind arg) o (marks_in m) d.fits
+
+      pub event_says : {left : List ℕ} {last : ℕ}
+          → ((lent : List ℕ) (at : ℕ) (text : List ℕ) → Wrote lent at (text ++ newline) end middle → Wrote lent at (text ++ ((0x09 ∷ hex_text (digits_of p) (get_or m' 0 0)) ++ newline)) last left)
+          → Says (watched y (Event kind arg)) lent at last left (watching x' (marks_in m'))
+      event_says put = says_as (sym of_step ∙ watched_event) (told_says c o m' goes marks_are (with_marks p o (get_or m' 0 0) event_answers (says_as event_traced told).says put))
 
 -- ---- a sign-off
 -- its number
@@ -169,7 +186,7 @@ few p s m pin =
     go true false well = omega arith
     go false there well = omega arith
 
-module _ (c : ℕ) (w m : List ℕ) (k : Packed c w) (fits : marks_fit (part_of c) (marks_in m) ≡ true) (pin : ℕ) {number : ℕ} {m' : List ℕ} (g : Signs c w m m' pin number) where
+module _ {x : TraceSession} {y : Session} {c : ℕ} {w m : List ℕ} (d : Standing x y c w m) (pin : ℕ) {number : ℕ} {m' : List ℕ} (g : Signs c w m m' pin number) where
   abbrev q : Part
   q = part_of c
 
@@ -184,29 +201,37 @@ module _ (c : ℕ) (w m : List ℕ) (k : Packed c w) (fits : marks_fit (part_of 
   refusal_is = refl
 
   pub number_few : number < 256
-  number_few = rw (g.number_is k, refusal_is) (few q s (marks_in m) pin)
+  number_few = rw (g.number_is d.packed, refusal_is) (few q s (marks_in m) pin)
 
-  watched_sign : signed_by c s (marks_in m) r ≡ watched (With c s (marks_in m)) (SignOff pin)
+  watched_sign : signed_by c s (marks_in m) r ≡ watched y (SignOff pin)
   unfolding watched
-  watched_sign = refl
+  watched_sign = ap (λ (y : Session). watched y (SignOff pin)) d.seen
 
-  module _ {x : TraceSession} (is : x ≡ Traced c s) where
-    pub signed_fits : fitting x (marks_in m') ≡ true
-    signed_fits = fitting_device c (marks_in m') is ∙ ap (marks_fit q) (g.marks_are k) ∙ fit_signed q s (marks_in m) pin fits
+  pub signed_fits : fitting x (marks_in m') ≡ true
+  signed_fits = fitting_device c (marks_in m') d.is ∙ ap (marks_fit q) (g.marks_are d.packed) ∙ fit_signed q s (marks_in m) pin d.fits
 
-    pub signed_says : number ≡ 0 → {lent left : List ℕ} {at end : ℕ} → Wrote lent at (marked_line q (out Nothing s) (get_or m' 0 0)) end left
-        → Says (watched (With c s (marks_in m)) (SignOff pin)) lent at end left (watching x (marks_in m'))
-    signed_says z v =
-        says_as (ap (λ (t : Bool). cond t (told_by c (out Nothing s) r.marks) (refused_by (With c s (marks_in m)) r.refusal)) (sym (eq-eqb r.refusal 0 (sym (g.number_is k) ∙ z))) ∙ watched_sign)
-        (told_says c (out Nothing s) m' is (g.marks_are k) v)
+  -- taken: the device's line as it stands, and its marks
+  module _ {lent middle : List ℕ} {at end : ℕ} (stands : Wrote lent at (standing_line x) end middle) where
+    line_is : Wrote lent at (shown_line q (out Nothing s)) end middle
+    line_is = wrote_as (ap standing_line d.is) stands
 
-    pub unsigned_says : (number ≡ 0 → ⊥) → {lent left : List ℕ} {at end : ℕ} → Wrote lent at (refusal_line number) end left
-        → Says (watched (With c s (marks_in m)) (SignOff pin)) lent at end left (watching x (marks_in m'))
-    unsigned_says z {lent} {left} {at} {end} v =
-        rw (g.refused z, watching_device c (marks_in m) is)
-        (says_as (ap (refused_by (With c s (marks_in m))) (g.number_is k)
-        ∙ ap (λ (t : Bool). cond t (told_by c (out Nothing s) r.marks) (refused_by (With c s (marks_in m)) r.refusal)) (sym (ne_eqb r.refusal 0 (λ e. z (g.number_is k ∙ e)))) ∙ watched_sign)
-        (refused_says (With c s (marks_in m)) number v))
+    pub signed_room : at + 36 ≤ length lent → (0 < end) × (end + 10 ≤ length middle)
+    signed_room room = room_left c (out Nothing s) line_is room
+
+    pub signed_says : number ≡ 0 → {left : List ℕ} {last : ℕ}
+        → ((lent : List ℕ) (at : ℕ) (text : List ℕ) → Wrote lent at (text ++ newline) end middle → Wrote lent at (text ++ ((0x09 ∷ hex_text (digits_of q) (get_or m' 0 0)) ++ newline)) last left)
+        → Says (watched y (SignOff pin)) lent at last left (watching x (marks_in m'))
+    signed_says z put =
+        says_as (ap (λ (t : Bool). cond t (told_by c (out Nothing s) r.marks) (refused_by (With c s (marks_in m)) r.refusal)) (sym (eq-eqb r.refusal 0 (sym (g.number_is d.packed) ∙ z))) ∙ watched_sign)
+        (told_says c (out Nothing s) m' d.is (g.marks_are d.packed) (with_marks q (out Nothing s) (get_or m' 0 0) refl line_is put))
+
+  -- refused: nothing changes
+  pub unsigned_says : (number ≡ 0 → ⊥) → {lent left : List ℕ} {at end : ℕ} → Wrote lent at (refusal_line number) end left → Says (watched y (SignOff pin)) lent at end left (watching x (marks_in m'))
+  unsigned_says z v =
+      rw (g.refused z, watching_device c (marks_in m) d.is)
+      (says_as (ap (refused_by (With c s (marks_in m))) (g.number_is d.packed)
+      ∙ ap (λ (t : Bool). cond t (told_by c (out Nothing s) r.marks) (refused_by (With c s (marks_in m)) r.refusal)) (sym (ne_eqb r.refusal 0 (λ e. z (g.number_is d.packed ∙ e)))) ∙ watched_sign)
+      (refused_says (With c s (marks_in m)) number v))
 
 -- ---- before a device
 module _ {x : TraceSession} {y : Session} (m : Marks) (none : x ≡ NotTraced) (is : watching x m ≡ y) {lent left : List ℕ} {at end : ℕ} (v : Wrote lent at (refusal_line 7) end left) where
@@ -235,12 +260,6 @@ module _ (x : Session) (said : Said) (text : List ℕ) (read : said ≡ said_by 
       → told_by part (out Nothing (power_on (part_of part) choice levels 0)) (new_marks (part_of part) healthy) ≡ answer_to x text
   unfolding watched
   device_said e = ap (watched x) (sym e ∙ read)
-
-  pub event_said : {kind arg : ℕ} → said ≡ Event kind arg → watched x (Event kind arg) ≡ answer_to x text
-  event_said e = ap (watched x) (sym e ∙ read)
-
-  pub sign_said : {pin : ℕ} → said ≡ SignOff pin → watched x (SignOff pin) ≡ answer_to x text
-  sign_said e = ap (watched x) (sym e ∙ read)
 
   pub unreadable_said : said ≡ Unreadable → refused_by x 7 ≡ answer_to x text
   unfolding watched

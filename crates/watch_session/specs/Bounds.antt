@@ -21,10 +21,10 @@ use Rattle.watch_lines.proofs.Laws.{said_tiny, said_long}
 use Rattle.watch_session.specs.Watch.{Session, part_in, watched, answer_to}
 use Rattle.watch_session.specs.Watch.Session.{NoDevice, With}
 
--- no answer is longer than 36 bytes
-pub short_refusal : (n : ℕ) → length (refusal_line n) ≤ 36
+short_refusal : (n : ℕ) → length (refusal_line n) ≤ 36
 short_refusal n = omega (arith, refusal_short n)
 
+-- no answer is longer than 36 bytes
 pub watched_short : (x : Session) (l : Said) → length (watched x l).line ≤ 36
 unfolding watched
 watched_short x Unreadable = short_refusal _
