@@ -10,8 +10,8 @@ use lib.ListN.{length, take, drop, length-take, length-drop, length-append}
 use Rattle.text.specs.Text.{Wrote}
 use Rattle.text.proofs.Laws.{rest as tail, wrote_as, wrote_both, wrote_nothing, wrote_length}
 use Rattle.text_pieces.specs.Pieces.{newline_at, taken_of}
-use Rattle.text_logs.specs.Lines.{Reply, Says}
-use Rattle.text_logs.specs.Pieces.{Reading, reading, Given, nothing, grown, ended, answer_of, and_then, given, first_given, at_end, Gives}
+use Rattle.text_logs.specs.Lines.{Reply}
+use Rattle.text_logs.specs.Pieces.{Reading, Given, nothing, grown, ended, and_then, given, first_given, at_end, Gives}
 use Rattle.text_logs.proofs.Laws.{given_first, grown_nothing, end_none, end_line}
 
 pub taken_some : (piece : List ℕ) → 0 < length piece → (0 < taken_of piece) × (taken_of piece ≤ length piece)
@@ -43,15 +43,6 @@ module _ {X : Type 0} (answer : X → List ℕ → Reply X) where
         → Gives (first_given answer r piece) out at end left after
     unfolding first_given
     line_gives inside g = rw (lt-ltb (newline_at piece) (length piece) (omega arith)) (rw found at g)
-
-  -- ---- a line that ends
-  reading_is : (r : Reading X) {x : X} {begun : List ℕ} → r.session ≡ x → r.begun ≡ begun → r ≡ reading x begun
-  reading_is r {x = x} e f = ap (λ (y : X). reading y r.begun) e ∙ ap (reading x) f
-
-  module _ (r : Reading X) (part : List ℕ) {out left : List ℕ} {at end : ℕ} {after : Reading X} where
-    -- the answer of the line that has begun, grown by its last part
-    pub end_gives : Says (answer_of answer (grown r part)) out at end left after.session → after.begun ≡ [] → Gives (ended answer (grown r part)) out at end left after
-    end_gives s e = record { wrote = s.says; goes_on = reading_is after s.goes_on e; small = omega (arith, ap length e) }
 
   -- ---- the end of the log
   module _ (r : Reading X) (small : length r.begun ≤ 33) where

@@ -56,10 +56,6 @@ keeps_as p words kept k e f g = rw (← e, ← f, ← g) k
 pub fresh_anew : (words : List ℕ) (c : Columns) → Named words → Told words c.told → KeepsOf (part_of (get_or words 27 0)) words c.text → Fresh words c
 fresh_anew words c k t keeps w kw tw = keeps_same (get_or words 27 0) c.told w words tw t kw k c.text keeps
 
--- it stays where the part does
-pub fresh_on : (words words' : List ℕ) → get_or words 27 0 ≡ get_or words' 27 0 → (c : Columns) → Fresh words c → Fresh words' c
-fresh_on words words' e c b = rw e at b
-
 -- a line that is put with the text that is kept is the device's
 pub kept_line : {words : List ℕ} (c : Columns) (a : Answer) {out₀ : List ℕ} {at end : ℕ} {left : List ℕ} → Named words → Fresh words c → Told words c.told
     → ((int : Bool) (low high : ℕ) → Keeps (part_of (get_or words 27 0)) c.text int low high → Wrote out₀ at (answer_line (part_of (get_or words 27 0)) a int low high) end left)

@@ -54,13 +54,16 @@ module _ (words : List ℕ) (kind arg : ℕ) where
   event_refused h = rw (le-ltb (get_or words 27 0) 2 h)
 
 -- the part that the words name is the session's
-pub line_here : (words text : List ℕ) → line_of (part_of (get_or words 27 0)) text ≡ line_of (part_in (session_of words)) text
-line_here words text = ap (λ (p : Part). line_of p text) (sym (go (get_or words 27 0)))
+pub part_here : (words : List ℕ) → part_of (get_or words 27 0) ≡ part_in (session_of words)
+part_here words = sym (go (get_or words 27 0))
   where
     go : (n : ℕ) → part_in (cond (ltb n 2) (With n (state_in (part_of (get_or words 27 0)) words)) NoDevice) ≡ part_of n
     go zero = refl
     go (suc zero) = refl
     go (suc (suc n)) = rw (le-ltb (suc (suc n)) 2 (omega arith))
+
+pub line_here : (words text : List ℕ) → line_of (part_of (get_or words 27 0)) text ≡ line_of (part_in (session_of words)) text
+line_here words text = ap (λ (p : Part). line_of p text) (part_here words)
 
 module _ (x : Session) (said : Line) (text : List ℕ) (read : said ≡ line_of (part_in x) text) where
   pub device_told : {part choice levels : ℕ} → said ≡ MadeLine part choice levels → told_by part (out Nothing (power_on (part_of part) choice levels 0)) ≡ answer_to x text

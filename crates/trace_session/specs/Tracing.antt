@@ -1,5 +1,5 @@
 -- One line in, one line out.
-use Rattle.std.specs.Prelude.{◌≡◌, true, cond, List, ℕ, Option, Some, None, ltb, get_or}
+use Rattle.std.specs.Prelude.{◌≡◌, true, cond, List, [], ℕ, Option, Some, None, ltb, get_or}
 use Rattle.map.specs.Map.{Part, part34, part_of}
 use Rattle.device_rules.specs.Device.{State, Outcome, out}
 use Rattle.device_rules.specs.declared.Answer.TheVariants.{Nothing}
@@ -33,6 +33,11 @@ part_in (With part s) = part_of part
 abbrev pub part_number : Session → Option ℕ
 part_number NoDevice = None
 part_number (With part s) = Some part
+
+-- the line of the device as it stands, where there is one
+abbrev pub standing_line : Session → List ℕ
+standing_line NoDevice = []
+standing_line (With part s) = shown_line (part_of part) (out Nothing s)
 
 abbrev pub Traced : Type 0
 Traced = Reply Session

@@ -1,7 +1,7 @@
 // The trace program's work: one line in, one line out, on a session that holds the device, once a line has made one.
 #![tactic(auto)]
 
-ghost use Rattle.std.specs.Prelude.{◌≡◌, ◌+◌, ◌^◌, ◌<◌, ◌≤◌, length};
+ghost use Rattle.std.specs.Prelude.{◌≡◌, ◌+◌, ◌^◌, ◌<◌, ◌≤◌, length, IsSome};
 ghost use Rattle.map.specs.Map.{part_of};
 ghost use Rattle.device_rules.specs.Device.{out as outcome};
 ghost use Rattle.device_rules.specs.declared.Answer.TheVariants.{Nothing};
@@ -10,7 +10,7 @@ ghost use Rattle.text.specs.Text.{Wrote};
 ghost use Rattle.text_answers.specs.Answers.{refused_line, shown_line};
 ghost use Rattle.text_logs.specs.Lines.{Says};
 ghost use Rattle.trace_session.specs.Tracing.Session.{NoDevice, With};
-ghost use Rattle.trace_session.specs.Tracing.{session_of, part_number, traced, answer_to, told_by, Kept};
+ghost use Rattle.trace_session.specs.Tracing.{session_of, part_number, standing_line, traced, answer_to, told_by, Kept};
 ghost use Rattle.trace_session.specs.Bounds.{answer_fits, answer_short, answer_cut};
 
 use device_rules::{Answer, UNREADABLE};
@@ -89,6 +89,14 @@ impl Session {
     {
         words_device::power_on(&mut self.words, part, choice, levels, NO_ID);
         self.columns.refresh(&self.words);
+        self.put_line(out, at)
+    }
+
+    // Puts the line of the device as it stands, which answers nothing.
+    pub fn put_line(&self, out: &mut [u8], at: usize) -> usize
+        requires { IsSome (part_number self.now) × (at + 26 ≤ length out.old) }
+        ensures { Wrote out.old at (standing_line self.now) result out.new }
+    {
         self.columns.put_line(&self.words, Answer::Nothing, out, at)
     }
 

@@ -7,49 +7,25 @@ use std::io::Read;
 fn write_header(to: &impl Print) -> io::Result<()> {
     let mut out = [0u8; 26];
     let end = watch_logs::put_header(&mut out, 0);
-    to.write_all(&out[0..end])
+    to.write_all(&out[..end])
 }
 
 // The answers' room is ten bytes for each byte of a piece and of a line that has begun, and 36 more.
 fn main(rt: HostRuntime) -> io::Result<()> {
     let mut piece = [0u8; 16384];
     let mut out = [0u8; 164_206];
-    let mut rows = [0u32; 128];
-    let mut next = [0u8; 128];
-    let mut words = watch_logs::start();
-    let mut told = [0u64; 5];
-    let mut kept = [0u8; 22];
-    let mut marks = [0u64; 2];
-    let mut held = [0u8; 33];
-    let mut len = 0;
+    let mut log = watch_logs::start();
     let mut input = rt.stdin();
     write_header(&rt)?;
     // a proved loop ends: it counts up to a number that no input reaches
     for _ in 0..u64::MAX {
-        let n = input.read(&mut piece)?;
-        if n == 0 {
-            let end = watch_logs::finish(
-                &mut words, &mut rows, &mut next, &mut told, &mut kept, &mut marks, &held, len,
-                &mut out, 0,
-            );
-            return rt.write_all(&out[0..end]);
+        let count = input.read(&mut piece)?;
+        if count == 0 {
+            let end = log.finish(&mut out, 0);
+            return rt.write_all(&out[..end]);
         }
-        let fed = watch_logs::feed(
-            &mut words,
-            &mut rows,
-            &mut next,
-            &mut told,
-            &mut kept,
-            &mut marks,
-            &mut held,
-            len,
-            &piece[0..n],
-            &mut out,
-            0,
-        );
-        let end = fed.end;
-        len = fed.len;
-        rt.write_all(&out[0..end])?;
+        let end = log.feed(&piece[..count], &mut out, 0);
+        rt.write_all(&out[..end])?;
     }
     Ok(())
 }

@@ -1,8 +1,8 @@
 -- A whole watched log: its text in, the answers' text out.
 use Rattle.std.specs.Prelude.{List, [], ◌∷◌, ◌++◌, ℕ}
 use Rattle.text_logs.specs.Lines.{lines_of, answers_from}
-use Rattle.watch_events.specs.Watch.{answer_to}
-use Rattle.watch_events.specs.Watch.Session.{NoDevice}
+use Rattle.watch_session.specs.Watch.{answer_to}
+use Rattle.watch_session.specs.Watch.Session.{NoDevice}
 
 -- `answer`, `int`, `low`, `high` and `marks`, tabs between them, and a newline
 unfoldable pub header : List ℕ

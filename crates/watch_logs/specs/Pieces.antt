@@ -1,10 +1,13 @@
 -- A log in pieces: what a piece gives, and what is carried to the next, as the watch program answers a line.
 use Rattle.std.specs.Prelude.{List, [], ◌++◌, ℕ}
 use Rattle.text_logs.specs.Pieces as pieces
-use Rattle.watch_events.specs.Watch.{Session, answer_to, watch_of, Holds}
-use Rattle.watch_events.specs.Watch.Session.{NoDevice}
-use Rattle.watch_joins.specs.Readings.{Reading}
+use Rattle.watch_session.specs.Watch.{Session, answer_to}
+use Rattle.watch_session.specs.Watch.Session.{NoDevice}
 use Rattle.watch_logs.specs.Logs.{header}
+
+-- what there is, and the line that has begun
+abbrev pub Reading : Type 0
+Reading = pieces.Reading Session
 
 -- before the log: no device yet, and no line
 abbrev pub opened : Reading
@@ -25,16 +28,6 @@ first_given r piece = pieces.first_given answer_to r piece
 -- what is given and what the end gives then
 abbrev pub to_end : Given → List ℕ
 to_end g = pieces.to_end answer_to g
-
--- the answers written from at on, and words, marks, the held bytes and how many of them count after them
-pub record Gives (g : Given) (words₀ marks₀ : List ℕ) (out : List ℕ) (at end : ℕ) (left words marks held : List ℕ) (len : ℕ) : Type 0 where
-  pub gives : pieces.Gives g out at end left (watch_of words marks) held len
-  pub holds : Holds words₀ marks₀ words marks
-
--- the last answer written from at on, and what words and marks hold after it
-pub record Ends (r : Reading) (words₀ marks₀ : List ℕ) (out : List ℕ) (at end : ℕ) (left words marks : List ℕ) : Type 0 where
-  pub ends : pieces.Ends answer_to r out at end left (watch_of words marks)
-  pub holds : Holds words₀ marks₀ words marks
 
 -- what is written for a log that arrives in any pieces: the header, the answers of each piece, and at the end a last line's
 unfoldable pub written : (pieces : List (List ℕ)) → List ℕ

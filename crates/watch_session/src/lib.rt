@@ -1,113 +1,129 @@
 // The watch program's work: one line in, one line out, as a trace has it, with the loss marks beside the device and at the end of each line; sign-offs among them.
 #![tactic(auto)]
 
-ghost use Rattle.std.specs.Prelude.{◌+◌, ◌<◌, ◌≤◌, length, get_or};
+ghost use Rattle.std.specs.Prelude.{◌≡◌, ◌+◌, ◌^◌, ◌<◌, ◌≤◌, length};
 ghost use Rattle.map.specs.Map.{part_of};
 ghost use Rattle.device_rules.specs.Device.{out as outcome};
 ghost use Rattle.device_rules.specs.declared.Answer.TheVariants.{Nothing};
-ghost use Rattle.words_state.specs.Packed.{state_in};
-ghost use Rattle.words_device.specs.Named.{Named};
-ghost use Rattle.text.specs.Text.{Wrote};
-ghost use Rattle.trace_columns.specs.Columns.{Fresh};
-ghost use Rattle.trace_session.specs.Tracing.{Beside};
-ghost use Rattle.watch_answers.specs.Marked.{marked_line};
-ghost use Rattle.watch_events.specs.Watch.{watch_of, watched, answer_to, Kept, Says};
+ghost use Rattle.device_rules.specs.PowerOn.{power_on};
+ghost use Rattle.text_logs.specs.Lines.{Says};
+ghost use Rattle.trace_lines.specs.Lines.{Taken};
+ghost use Rattle.loss_rules.specs.Marks.{new_marks};
+ghost use Rattle.watch_session.specs.Watch.Session.{NoDevice};
+ghost use Rattle.watch_session.specs.Watch.{part_in, told_by, watched, answer_to};
+ghost use Rattle.watch_session.specs.Bounds.{answer_fits, answer_short, answer_cut};
 
-use device_rules::Answer;
 use loss_sets::SET;
-use trace_session::NO_PART;
+use std::marker::Model;
+use text_logs::AnswersLines;
+use trace_session::Session;
 use watch_lines::Said;
-use words::PART;
+use words::{PART, STATUS};
 
-// A sign-off that was taken on the device that there is.
-fn signed(
-    words: &[u64; 28],
-    told: &mut [u64; 5],
-    kept: &mut [u8; 22],
-    set: u64,
-    out: &mut [u8],
-    at: usize,
-) -> usize
-    requires { Named words.now × (at + 36 ≤ length out.old) × Fresh words.now told.old kept.old }
-    ensures { Wrote out.old at (marked_line (part_of (get_or words.now 27 0)) (outcome Nothing (state_in (part_of (get_or words.now 27 0)) words.now)) set) result out.new
-        × Fresh words.now told.new kept.new }
-{
-    trace_columns::renew(words, told, kept);
-    let end = text_answers::put_line(out, at, words[PART], Answer::Nothing, &*kept);
-    watch_answers::put_marks(out, end, words[PART], set)
+// A trace's session, and the loss marks of its device.
+#[derive(Drop)]
+pub struct Watch {
+    session: Session,
+    marks: [u64; 2],
 }
 
-// A sign-off on the device that there is.
-fn sign_on(
-    words: &[u64; 28],
-    told: &mut [u64; 5],
-    kept: &mut [u8; 22],
-    marks: &mut [u64; 2],
-    pin: u32,
-    out: &mut [u8],
-    at: usize,
-) -> usize
-    requires { Kept words.now marks.old × (at + 36 ≤ length out.old) × Fresh words.now told.old kept.old × (get_or words.now 27 0 < 2) }
-    ensures { Says (watched (watch_of words.now marks.old) (Said.SignOff pin)) words.now marks.old out.old at result out.new words.now marks.new
-        × Fresh words.now told.new kept.new }
-{
-    let number = loss_marks::sign_off(words, marks, words[PART], pin);
-    if number == 0 {
-        return signed(words, told, kept, marks[SET], out, at);
-    }
-    watch_answers::refuse_sign(out, at, number)
+impl Model for Watch {
+    ghost use Rattle.std.specs.Prelude.{◌≡◌, true};
+    ghost use Rattle.loss_sets.specs.Sets.{marks_in};
+    ghost use Rattle.watch_session.specs.Watch.{Session as Watched, watching, fitting};
+
+    ghost Value = { Watched };
+
+    ghost view = { λ w. watching w.session (marks_in w.marks) };
+
+    ghost invariant = { λ w. fitting w.session (marks_in w.marks) ≡ true };
 }
 
-// A sign-off, on the device if there is one.
-fn sign(
-    words: &[u64; 28],
-    told: &mut [u64; 5],
-    kept: &mut [u8; 22],
-    marks: &mut [u64; 2],
-    pin: u32,
-    out: &mut [u8],
-    at: usize,
-) -> usize
-    requires { Kept words.now marks.old × (at + 36 ≤ length out.old) × Fresh words.now told.old kept.old }
-    ensures { Says (watched (watch_of words.now marks.old) (Said.SignOff pin)) words.now marks.old out.old at result out.new words.now marks.new
-        × Fresh words.now told.new kept.new }
-{
-    if words[PART] < NO_PART {
-        return sign_on(words, told, kept, marks, pin, out, at);
-    }
-    watch_answers::refuse(out, at)
-}
-
-// One line, without its newline: its answer is written from at on; says where it ends.
-pub fn answer_line(
-    words: &mut [u64; 28],
-    rows: &mut [u32; 128],
-    next: &mut [u8; 128],
-    told: &mut [u64; 5],
-    kept: &mut [u8; 22],
-    marks: &mut [u64; 2],
-    line: &[u8],
-    out: &mut [u8],
-    at: usize,
-) -> usize
-    requires { Kept words.old marks.old × (at + 36 ≤ length out.old) × Beside words.old rows.old next.old told.old kept.old }
-    ensures { Says (answer_to (watch_of words.old marks.old) line.now) words.old marks.old out.old at result out.new words.new marks.new
-        × Beside words.new rows.new next.new told.new kept.new }
-{
-    let said = watch_lines::read(line, words[PART]);
-    match said {
-        Said::Device {
-            part,
-            choice,
-            levels,
-            healthy,
-        } => watch_events::make(
-            words, rows, next, told, kept, marks, part, choice, levels, healthy, out, at,
-        ),
-        Said::Event { kind, arg } => {
-            watch_events::event(words, rows, next, told, kept, marks, kind, arg, out, at)
+impl Watch {
+    // Before a log: no device yet.
+    pub fn new() -> Self
+        ensures { result ≡ NoDevice }
+    {
+        Watch {
+            session: Session::new(),
+            marks: [0; 2],
         }
-        Said::SignOff { pin } => sign(&*words, told, kept, marks, pin, out, at),
-        Said::Unreadable => watch_answers::refuse(out, at),
     }
+
+    // A device anew, with marks that are all set.
+    pub fn make(
+        &mut self,
+        part: u64,
+        choice: u8,
+        levels: u64,
+        healthy: u64,
+        out: &mut [u8],
+        at: usize,
+    ) -> usize
+        requires { (part < 2) × (choice < 4) × (levels < 2 ^ (part_of part).width) × (healthy < 2 ^ (part_of part).width) × (at + 36 ≤ length out.old) }
+        ensures { Says (told_by part (outcome Nothing (power_on (part_of part) choice levels 0)) (new_marks (part_of part) healthy)) out.old at result out.new self.new }
+    {
+        let end = self.session.make(part, choice, levels, out, at);
+        loss_sets::make(&mut self.marks, part, healthy);
+        watch_answers::put_marks(out, end, part, self.marks[SET])
+    }
+
+    // An event, on the device if there is one; what it sets is marked.
+    pub fn event(&mut self, kind: u32, arg: u64, out: &mut [u8], at: usize) -> usize
+        requires { Taken (part_in self.old) kind arg × (at + 36 ≤ length out.old) }
+        ensures { Says (watched self.old (Said.Event kind arg)) out.old at result out.new self.new }
+    {
+        let Some(part) = self.session.part() else {
+            return watch_answers::refuse(out, at);
+        };
+        let words = self.session.words();
+        let before = words[STATUS];
+        let resets = loss_marks::is_reset(words, kind);
+        let end = self.session.event(kind, arg, out, at);
+        let after = self.session.words()[STATUS];
+        loss_notes::note(&mut self.marks, resets, before, after);
+        watch_answers::put_marks(out, end, part, self.marks[SET])
+    }
+
+    // A sign-off, on the device if there is one.
+    pub fn sign(&mut self, pin: u32, out: &mut [u8], at: usize) -> usize
+        requires { at + 36 ≤ length out.old }
+        ensures { Says (watched self.old (Said.SignOff pin)) out.old at result out.new self.new }
+    {
+        let Some(part) = self.session.part() else {
+            return watch_answers::refuse(out, at);
+        };
+        let number = loss_marks::sign_off(self.session.words(), &mut self.marks, part, pin);
+        if number != 0 {
+            return watch_answers::refuse_sign(out, at, number);
+        }
+        let end = self.session.put_line(out, at);
+        watch_answers::put_marks(out, end, part, self.marks[SET])
+    }
+}
+
+impl AnswersLines for Watch {
+    ghost room = { 36 };
+
+    ghost answer = { answer_to };
+
+    fn answer_line(&mut self, line: &[u8], out: &mut [u8], at: usize) -> usize {
+        match watch_lines::read(line, self.session.words()[PART]) {
+            Said::Device {
+                part,
+                choice,
+                levels,
+                healthy,
+            } => self.make(part, choice, levels, healthy, out, at),
+            Said::Event { kind, arg } => self.event(kind, arg, out, at),
+            Said::SignOff { pin } => self.sign(pin, out, at),
+            Said::Unreadable => watch_answers::refuse(out, at),
+        }
+    }
+
+    ghost fits = { answer_fits };
+
+    ghost short = { answer_short };
+
+    ghost cut = { answer_cut };
 }
