@@ -164,15 +164,6 @@ module _ (r : Reading) (events : List ℕ) (small : length r.begun ≤ 33) where
       }
 
 -- ---- one line after the other
-pub meets_start : (follows : List ℕ → Type 0) (r : Reading) (events answers : List ℕ) → Meets follows r events answers None 0 0 0 r
-meets_start follows r events answers = record {
-  within_events = omega arith;
-  within_answers = omega arith;
-  few = omega arith;
-  goes_on = λ v n later more f. (let z : n ≡ n + 0 = omega arith in ap (λ (k : ℕ). found_onward k r (events ++ later) (answers ++ more)) z);
-  decides = λ v e. absurd (none-some v e);
-}
-
 -- and then what a call makes of the rests, as the code names them
 pub meets_then : {last : Bool} {r between after : Reading} {events answers : List ℕ} {lines told taken : ℕ} → Meets (Unless last) r events answers None lines told taken between
     → (length answers - taken ≤ 26 → last ≡ true) → {verdict : Option Verdict} {lines' told' taken' : ℕ}
@@ -220,6 +211,3 @@ pub fewer_to_go : (before after : Option Verdict) (all events more : ℕ) → is
 fewer_to_go None None all events more e some h = omega (arith, some refl, h)
 fewer_to_go None (Some v) all events more e some h = omega (arith, h)
 fewer_to_go (Some v) after all events more e some h = clash true refl e
-
-pub rest_some : (s : List ℕ) (at : ℕ) → at < length s → 0 < length (take (length s - at) (drop at s))
-rest_some s at h = omega (arith, ap length (tail at s), length-drop at s)

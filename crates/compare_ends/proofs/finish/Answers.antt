@@ -21,9 +21,6 @@ pub judge-requires : goal.judge-requires
 judge-requires c =
     some_there (last_there c.args.log.now c.finish-end.ensures.gives c.requires) c.if-end-eq0.false
 
-pub overflow_sub-answers : goal.overflow_sub-answers
-overflow_sub-answers c = c.in-Ok.ensures.within
-
 pub returns-in-Ok : goal.returns-in-Ok
 returns-in-Ok c =
     let r = c.args.log.now in

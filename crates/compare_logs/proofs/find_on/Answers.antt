@@ -11,12 +11,6 @@ returns-in-Some c =
       within = c.meet-met.ensures.meets.within_answers;
     }
 
-pub slice_bounds-finish-start : goal.slice_bounds-finish-start
-slice_bounds-finish-start c = c.meet-met.ensures.meets.within_answers
-
-pub finish-settled-requires : goal.finish-settled-requires
-finish-settled-requires c = omega (arith, c.meet-met.ensures.line, c.requires)
-
 pub overflow_add-result : goal.overflow_add-result
 overflow_add-result c =
     let all = c.meet-met.ensures.all c.in-None.is refl in
