@@ -91,7 +91,7 @@ pub fn ghixramel_burst(
 pub fn ghixramel_marks_new(marks: &mut [u64; 2], healthy: u64) -> u32
     ensures { MakesMarks 0 healthy result marks.old marks.new }
 {
-    loss_sets::make(marks, PCAL6524, healthy)
+    loss_host::tell(loss_sets::make(marks, PCAL6524, healthy))
 }
 
 // One event, and what it sets is marked.
@@ -126,7 +126,7 @@ pub fn ghixramel_marked_burst(
 pub fn ghixramel_sign_off(words: &[u64; 28], marks: &mut [u64; 2], pin: u32) -> u32
     ensures { Signs 0 words.now marks.old marks.new pin result }
 {
-    loss_marks::sign_off(words, marks, PCAL6524, pin)
+    loss_host::tell(loss_marks::sign_off(words, marks, PCAL6524, pin))
 }
 
 // The plan from the start to the goal, at the start of the buffer.
@@ -232,7 +232,7 @@ pub fn ghixramel34_burst(
 pub fn ghixramel34_marks_new(marks: &mut [u64; 2], healthy: u64) -> u32
     ensures { MakesMarks 1 healthy result marks.old marks.new }
 {
-    loss_sets::make(marks, PCAL6534, healthy)
+    loss_host::tell(loss_sets::make(marks, PCAL6534, healthy))
 }
 
 pub fn ghixramel34_marked_step(
@@ -264,7 +264,7 @@ pub fn ghixramel34_marked_burst(
 pub fn ghixramel34_sign_off(words: &[u64; 28], marks: &mut [u64; 2], pin: u32) -> u32
     ensures { Signs 1 words.now marks.old marks.new pin result }
 {
-    loss_marks::sign_off(words, marks, PCAL6534, pin)
+    loss_host::tell(loss_marks::sign_off(words, marks, PCAL6534, pin))
 }
 
 // The plan from the start to the goal, at the start of the buffer.

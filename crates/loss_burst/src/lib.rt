@@ -3,9 +3,9 @@
 
 ghost use Rattle.loss_burst.specs.MarkedBurst.{MarkedBursts};
 
-use loss_marks::BROKEN;
+// Refusals as a caller has them.
+const BROKEN: u32 = 3;
 
-// Refusal 8 as a caller has it.
 const BAD_BURST: u32 = 8;
 
 // A burst of the part, whatever words and marks hold.

@@ -1,7 +1,11 @@
-// A step with loss marks as a C host has it: its answer as numbers.
+// Loss marks as a C host has them: answers and refusals as numbers.
 #![tactic(auto)]
 
+ghost use Rattle.std.specs.Prelude.{◌≡◌};
+ghost use Rattle.loss_sets.specs.Refused.{refused_by};
 ghost use Rattle.loss_host.specs.MarkedHost.{MarkedTold};
+
+use loss_sets::Refusal;
 
 // One event of the part.
 pub fn step(
@@ -16,4 +20,14 @@ pub fn step(
 {
     let stepped = loss_marks::step(words, marks, part, kind, argument);
     host_answers::tell(stepped, answer)
+}
+
+// What marks answer: the number of the refusal, 0 for none.
+pub fn tell(done: Result<(), Refusal>) -> u32
+    ensures { result ≡ refused_by done }
+{
+    match done {
+        Ok(()) => 0,
+        Err(refusal) => u32::from(refusal.number()),
+    }
 }

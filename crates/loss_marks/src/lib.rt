@@ -6,17 +6,13 @@ ghost use Rattle.map.specs.Map.{Part};
 ghost use Rattle.device_rules.specs.Refusals.{event_of};
 ghost use Rattle.words_state.specs.Packed.{state_in};
 ghost use Rattle.loss_rules.specs.Marks.{is_reset};
+ghost use Rattle.loss_sets.specs.Refused.{refused_by};
 ghost use Rattle.loss_marks.specs.Lent.{MarkedSteps, Signs};
 
 use device_rules::{Answer, BAD_IMAGE, RESET, STOP};
-use loss_sets::{BAD_ARGUMENT, HEALTHY};
+use loss_sets::{HEALTHY, Refusal};
 use words::{BUS, STATUS};
 use words_state::ARMED;
-
-// Refusals as a caller has them, beside that of `loss_sets`; 0 is none.
-pub const BROKEN: u32 = 3;
-
-pub const NOT_HEALTHY: u32 = 13;
 
 // Whether an event of this kind resets the device. A kind over the last one is refused, and nobody asks.
 pub fn is_reset(words: &[u64; 28], kind: u32) -> bool
@@ -46,21 +42,21 @@ pub fn step(words: &mut [u64; 28], marks: &mut [u64; 2], part: u64, kind: u32, a
 }
 
 // Sign-off of a pin of the part, whatever words and marks hold.
-pub fn sign_off(words: &[u64; 28], marks: &mut [u64; 2], part: u64, pin: u32) -> u32
-    ensures { Signs part words.now marks.old marks.new pin result }
+pub fn sign_off(words: &[u64; 28], marks: &mut [u64; 2], part: u64, pin: u32) -> Result<(), Refusal>
+    ensures { Signs part words.now marks.old marks.new pin (refused_by result) }
 {
     if !words_fits::fits(words, part) {
-        return BROKEN;
+        return Err(Refusal::BrokenImage);
     }
     if !loss_sets::fit(&*marks, map::pins_of(part)) {
-        return BROKEN;
+        return Err(Refusal::BrokenImage);
     }
     if loss_sets::width_of(part) <= pin {
-        return BAD_ARGUMENT;
+        return Err(Refusal::BadArgument);
     }
     if !loss_signs::is_well(words, marks[HEALTHY], pin) {
-        return NOT_HEALTHY;
+        return Err(Refusal::NotHealthy);
     }
     loss_signs::clear(marks, pin);
-    0
+    Ok(())
 }

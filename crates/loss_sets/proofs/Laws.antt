@@ -11,6 +11,10 @@ use Rattle.bits.specs.Bits.{bit}
 use Rattle.bits.proofs.Laws.{bit_ones, tabulated}
 use Rattle.map.specs.Map.{Part, part_of}
 use Rattle.loss_rules.specs.Marks.{Marks, marks, marks_fit, new_marks}
+use Rattle.std.specs.Prelude.{Result, Ok, Err}
+use Rattle.loss_sets.specs.Refused.{number_of, refused_by}
+use Rattle.loss_sets.specs.declared.Refusal.{Refusal}
+use Rattle.loss_sets.specs.declared.Refusal.TheVariants.{BadArgument, BrokenImage, NotHealthy}
 use Rattle.loss_sets.specs.Sets.{MakesMarks}
 
 -- ---- sets of the part's pins
@@ -54,3 +58,13 @@ module _ (c pins healthy : ℕ) (are : pins ≡ 2 ^ (part_of c).width - 1) (m : 
   making_taken h =
       let e : ltb healthy (2 ^ (part_of c).width) ≡ true = sym (last (part_of c) pins are healthy) ∙ le-leb healthy pins h in
       record { number_is = ap (λ (t : Bool). cond {A = ℕ} t 0 2) (sym e); made = λ z. made (part_of c) pins are healthy; refused = λ h. absurd (h refl) }
+
+-- every refusal has a number
+pub numbered : (e : Refusal) → number_of e ≡ 0 → ⊥
+numbered BadArgument h = omega arith
+numbered BrokenImage h = omega arith
+numbered NotHealthy h = omega arith
+
+pub unrefused : {A : Type 0} (r : Result A Refusal) → ((e : Refusal) → r ≡ Err e → ⊥) → refused_by r ≡ 0
+unrefused (Ok x) h = refl
+unrefused (Err e) h = absurd (h e refl)

@@ -4,14 +4,33 @@
 ghost use Rattle.std.specs.Prelude.{◌≡◌, ◌-◌, ◌^◌, ◌≤◌};
 ghost use Rattle.map.specs.Map.{Part, part_of};
 ghost use Rattle.loss_rules.specs.Marks.{marks_fit};
+ghost use Rattle.loss_sets.specs.Refused.{number_of, refused_by};
 ghost use Rattle.loss_sets.specs.Sets.{marks_in, MakesMarks};
 
 pub const SET: usize = 0;
 
 pub const HEALTHY: usize = 1;
 
-// A refusal as a caller has it; 0 is none.
-pub const BAD_ARGUMENT: u32 = 2;
+// Why marks are not made, or a mark is not signed off.
+#[derive(Clone, Copy, Debug, PartialEq, Eq)]
+pub enum Refusal {
+    BadArgument,
+    BrokenImage,
+    NotHealthy,
+}
+
+impl Refusal {
+    // Its number, as lines and C have it.
+    pub fn number(self) -> u8
+        ensures { result ≡ number_of self }
+    {
+        match self {
+            Refusal::BadArgument => 2,
+            Refusal::BrokenImage => 3,
+            Refusal::NotHealthy => 13,
+        }
+    }
+}
 
 // How many pins a part has.
 const WIDTH24: u32 = 24;
@@ -38,13 +57,13 @@ pub fn fit(marks: &[u64; 2], pins: u64) -> bool
 }
 
 // Marks anew, all of them set.
-pub fn make(marks: &mut [u64; 2], part: u64, healthy: u64) -> u32
-    ensures { MakesMarks part healthy result marks.old marks.new }
+pub fn make(marks: &mut [u64; 2], part: u64, healthy: u64) -> Result<(), Refusal>
+    ensures { MakesMarks part healthy (refused_by result) marks.old marks.new }
 {
     let pins = map::pins_of(part);
     if pins < healthy {
-        return BAD_ARGUMENT;
+        return Err(Refusal::BadArgument);
     }
     *marks = [pins, healthy];
-    0
+    Ok(())
 }

@@ -5,10 +5,11 @@ ghost use Rattle.std.specs.Prelude.{List, ◌∷◌, ◌++◌, ℕ, ◌+◌, ◌
 ghost use Rattle.map.specs.Map.{part_of};
 ghost use Rattle.text.specs.Text.{hex_text, Wrote};
 ghost use Rattle.text_answers.specs.Answers.{digits_of, newline};
+ghost use Rattle.loss_sets.specs.Refused.{number_of};
 ghost use Rattle.watch_answers.specs.Marked.{refusal_line};
 
 use device_rules::UNREADABLE;
-use loss_marks::NOT_HEALTHY;
+use loss_sets::Refusal;
 
 // Refusal 7.
 pub fn refuse(out: &mut [u8], at: usize) -> usize
@@ -19,14 +20,14 @@ pub fn refuse(out: &mut [u8], at: usize) -> usize
 }
 
 // A sign-off's refusal.
-pub fn refuse_sign(out: &mut [u8], at: usize, number: u32) -> usize
-    requires { (at + 36 ≤ length out.old) × (number < 256) }
-    ensures { Wrote out.old at (refusal_line number) result out.new }
+pub fn refuse_sign(out: &mut [u8], at: usize, refusal: Refusal) -> usize
+    requires { at + 36 ≤ length out.old }
+    ensures { Wrote out.old at (refusal_line (number_of refusal)) result out.new }
 {
-    if number == NOT_HEALTHY {
-        return text::put(out, at, b"refused\t13\n");
+    match refusal {
+        Refusal::NotHealthy => text::put(out, at, b"refused\t13\n"),
+        _ => text_answers::put_refused(out, at, refusal.number()),
     }
-    text_answers::put_refused(out, at, number as u8)
 }
 
 // Puts the marks at the end of a line that ends here, in place of its newline, and says where it ends then.

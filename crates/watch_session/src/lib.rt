@@ -64,7 +64,7 @@ impl Watch {
         ensures { Says (told_by part (outcome Nothing (power_on (part_of part) choice levels 0)) (new_marks (part_of part) healthy)) out.old at result out.new self.new }
     {
         let end = self.session.make(part, choice, levels, out, at);
-        loss_sets::make(&mut self.marks, part, healthy);
+        let _ = loss_sets::make(&mut self.marks, part, healthy);
         watch_answers::put_marks(out, end, part, self.marks[SET])
     }
 
@@ -93,9 +93,9 @@ impl Watch {
         let Some(part) = self.session.part() else {
             return watch_answers::refuse(out, at);
         };
-        let number = loss_marks::sign_off(self.session.words(), &mut self.marks, part, pin);
-        if number != 0 {
-            return watch_answers::refuse_sign(out, at, number);
+        let signed = loss_marks::sign_off(self.session.words(), &mut self.marks, part, pin);
+        if let Err(refusal) = signed {
+            return watch_answers::refuse_sign(out, at, refusal);
         }
         let end = self.session.put_line(out, at);
         watch_answers::put_marks(out, end, part, self.marks[SET])
