@@ -15,8 +15,9 @@ use Rattle.std.specs.Prelude.{Option, Some, None}
 use Rattle.text.proofs.Laws.{starts_short, field_small, rest}
 use Rattle.text.specs.Text.{starts_with, is_word, field_of, Small}
 use Rattle.text_answers.specs.Answers.{digits_of}
-use Rattle.trace_lines.specs.declared.Line.TheVariants.{Event, Unreadable}
-use Rattle.trace_lines.specs.Lines.{line_of, fields_of, devices_of, device_of, levels_of, event_with, device_with, start, stop, reset, byte, fetch, pins, device, device34, tab, Taken, Means}
+use Rattle.trace_lines.specs.declared.Line.TheVariants.{Event}
+use Rattle.trace_lines.specs.declared.Made.{Made}
+use Rattle.trace_lines.specs.Lines.{line_of, fields_of, devices_of, device_of, levels_of, event_with, device_with, made_line, start, stop, reset, byte, fetch, pins, device, device34, tab, Taken, Means}
 
 small_levels : (p : Part) {d : Option ℕ} → Small (2 ^ p.width - 1) d → (n : ℕ) → d ≡ Some n → n < 2 ^ p.width
 small_levels p s n e = omega (arith, s.small n e, pow_pos p.width)
@@ -38,15 +39,15 @@ module _ (p : Part) where
               four true e = lt-ltb arg (2 ^ p.width) (t.3 (eqb-true kind 4 e))
               four false e = refl
 
-  none : Means p Unreadable
+  none : Means p None
   none = record {
-    makes = λ q c l e. (let z : ◌≡◌ {A = ℕ} 0 1 = cc in absurd (omega arith));
+    makes = λ m e. (let z : ◌≡◌ {A = ℕ} 0 1 = cc in absurd (omega arith));
     takes = λ k a e. (let z : ◌≡◌ {A = ℕ} 0 1 = cc in absurd (omega arith));
   }
 
-  event : (kind arg : ℕ) → Taken p kind arg → Means p (Event kind arg)
+  event : (kind arg : ℕ) → Taken p kind arg → Means p (Some (Event kind arg))
   event kind arg t = record {
-    makes = λ q c l e. (let z : ◌≡◌ {A = ℕ} 0 1 = cc in absurd (omega arith));
+    makes = λ m e. (let z : ◌≡◌ {A = ℕ} 0 1 = cc in absurd (omega arith));
     takes = λ k a e. (
         let s : kind ≡ k = cc in
         let q : arg ≡ a = cc in
@@ -54,7 +55,7 @@ module _ (p : Part) where
   }
 
   -- a kind without an argument
-  plain : (kind : ℕ) → kind ≤ 5 → (kind ≡ 2 → ⊥) → (kind ≡ 3 → ⊥) → (kind ≡ 4 → ⊥) → Means p (Event kind 0)
+  plain : (kind : ℕ) → kind ≤ 5 → (kind ≡ 2 → ⊥) → (kind ≡ 3 → ⊥) → (kind ≡ 4 → ⊥) → Means p (Some (Event kind 0))
   plain kind h two three four = event kind 0 (h, λ z. absurd (two z), λ z. absurd (three z), λ z. absurd (four z))
 
   byte_means : (d : Option ℕ) → Small 0xff d → Means p (event_with 2 d)
@@ -69,31 +70,29 @@ module _ (p : Part) where
   pins_mean (Some n) b = event 4 n (omega arith, λ z. absurd (omega (arith, z)), λ z. absurd (omega (arith, z)), λ z. small_levels p b n refl)
   pins_mean None b = none
 
-  made : (part : ℕ) → part < 2 → (c l : Option ℕ) → Small 3 c → Small (2 ^ (part_of part).width - 1) l → Means p (device_with part c l)
+  made : (part : ℕ) → part < 2 → (c l : Option ℕ) → Small 3 c → Small (2 ^ (part_of part).width - 1) l → Means p (made_line (device_with part c l))
   made part two (Some c) (Some l) a b =
       record {
-        makes = λ q choice levels e. (
-            let s : part ≡ q = cc in
-            let t : c ≡ choice = cc in
-            let u : l ≡ levels = cc in
-            (omega arith, omega (arith, a.small c refl), rw (← s, ← u) (small_levels (part_of part) b l refl)));
+        makes = λ m e. (
+            let s : record { part = part; choice = c; levels = l } ≡ m = cc in
+            rw (← s) (two, omega (arith, a.small c refl), small_levels (part_of part) b l refl));
         takes = λ k g e. (let z : ◌≡◌ {A = ℕ} 0 1 = cc in absurd (omega arith));
       }
   made part two (Some c) None a b = none
   made part two None l a b = none
 
-  device_means : (part : ℕ) → part < 2 → (s : List ℕ) → Means p (device_of part s)
+  device_means : (part : ℕ) → part < 2 → (s : List ℕ) → Means p (made_line (device_of part s))
   unfolding device_of
   device_means part two s =
-      either_arm (Means p) (starts_with tab (drop 1 s))
+      either_arm (λ (m : Option Made). Means p (made_line m)) (starts_with tab (drop 1 s))
       (made part two (field_of 1 3 (take 1 s)) (levels_of (part_of part) (drop 2 s)) (field_small 1 3 (take 1 s)) (field_small (digits_of (part_of part)) (2 ^ (part_of part).width - 1) (drop 2 s)))
       none
 
-  devices_mean : (s : List ℕ) → Means p (devices_of s)
+  devices_mean : (s : List ℕ) → Means p (made_line (devices_of s))
   unfolding devices_of
   devices_mean s =
-      either_arm (Means p) (starts_with device s) (device_means 0 (omega arith) (drop 7 s))
-      (either_arm (Means p) (starts_with device34 s) (device_means 1 (omega arith) (drop 9 s)) none)
+      either_arm (λ (m : Option Made). Means p (made_line m)) (starts_with device s) (device_means 0 (omega arith) (drop 7 s))
+      (either_arm (λ (m : Option Made). Means p (made_line m)) (starts_with device34 s) (device_means 1 (omega arith) (drop 9 s)) none)
 
   fields_mean : (s : List ℕ) → Means p (fields_of p s)
   unfolding fields_of
@@ -119,11 +118,11 @@ starts_long (w ∷ word) [] h = let z : ◌≡◌ {A = ℕ} 0 1 = cc in absurd (
 starts_long (w ∷ word) (b ∷ text) h = let l : length word ≤ length text = starts_long word text (and_right (eqb b w) _ h) in omega arith
 
 module _ (part : ℕ) (s : List ℕ) where
-  pub device_short : length s < 2 → Unreadable ≡ device_of part s
+  pub device_short : length s < 2 → None ≡ device_of part s
   unfolding device_of
   device_short h = rw (starts_short tab (drop 1 s) (omega (arith, length-drop 1 s)))
 
-  pub device_no_tab : starts_with tab (take (length s - 1) (drop 1 s)) ≡ false → Unreadable ≡ device_of part s
+  pub device_no_tab : starts_with tab (take (length s - 1) (drop 1 s)) ≡ false → None ≡ device_of part s
   unfolding device_of
   device_no_tab h = rw (rw rest at h)
 
@@ -143,7 +142,7 @@ module _ (s : List ℕ) where
   unfolding devices_of
   devices_other n h = rw (n, h, rest)
 
-  pub devices_none : starts_with device s ≡ false → starts_with device34 s ≡ false → Unreadable ≡ devices_of s
+  pub devices_none : starts_with device s ≡ false → starts_with device34 s ≡ false → None ≡ devices_of s
   unfolding devices_of
   devices_none n h = rw (n, h)
 
@@ -157,7 +156,7 @@ module _ (p : Part) (s : List ℕ) (not_byte : starts_with byte s ≡ false) whe
     unfolding fields_of
     fields_pins count most d m h = rw (not_byte, not_fetch, h, d, m)
 
-    pub fields_device : starts_with pins s ≡ false → devices_of s ≡ fields_of p s
+    pub fields_device : starts_with pins s ≡ false → made_line (devices_of s) ≡ fields_of p s
     unfolding fields_of
     fields_device h = rw (not_byte, not_fetch, h)
 
@@ -167,7 +166,7 @@ not_word word s h = rw (ne_eqb (length s) (length word) (λ e. omega (arith, e))
 
 module _ (p : Part) (s : List ℕ) where
   -- no line of two bytes or fewer says anything
-  pub line_tiny : length s < 3 → line_of p s ≡ Unreadable
+  pub line_tiny : length s < 3 → line_of p s ≡ None
   unfolding line_of fields_of devices_of
   line_tiny h =
       rw (
@@ -182,20 +181,20 @@ module _ (p : Part) (s : List ℕ) where
         starts_short device34 s (omega arith),
       )
 
-  pub line_long : 32 < length s → Unreadable ≡ line_of p s
+  pub line_long : 32 < length s → None ≡ line_of p s
   unfolding line_of
   line_long long = rw (lt-ltb 32 (length s) long)
 
   module _ (short : length s ≤ 32) where
-    pub line_start : is_word start s ≡ true → Event 0 0 ≡ line_of p s
+    pub line_start : is_word start s ≡ true → Some (Event 0 0) ≡ line_of p s
     unfolding line_of
     line_start h = rw (le-ltb 32 (length s) short, h)
 
-    pub line_stop : is_word start s ≡ false → is_word stop s ≡ true → Event 1 0 ≡ line_of p s
+    pub line_stop : is_word start s ≡ false → is_word stop s ≡ true → Some (Event 1 0) ≡ line_of p s
     unfolding line_of
     line_stop a h = rw (le-ltb 32 (length s) short, a, h)
 
-    pub line_reset : is_word start s ≡ false → is_word stop s ≡ false → is_word reset s ≡ true → Event 5 0 ≡ line_of p s
+    pub line_reset : is_word start s ≡ false → is_word stop s ≡ false → is_word reset s ≡ true → Some (Event 5 0) ≡ line_of p s
     unfolding line_of
     line_reset a b h = rw (le-ltb 32 (length s) short, a, b, h)
 

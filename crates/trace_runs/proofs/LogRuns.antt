@@ -18,7 +18,8 @@ use Rattle.device_demands.proofs.Keeps.{WellFormed, image_of, stepped_keeps, pow
 use Rattle.device_demands.proofs.Runs.{step_answers}
 use Rattle.trace_lines.specs.Lines.{line_of, Taken, Means}
 use Rattle.trace_lines.specs.declared.Line.{Line}
-use Rattle.trace_lines.specs.declared.Line.TheVariants.{Device, Event, Unreadable}
+use Rattle.std.specs.Prelude.{Option, Some, None}
+use Rattle.trace_lines.specs.declared.Line.TheVariants.{Device, Event}
 use Rattle.trace_lines.proofs.Laws.{line_means, taken_fits}
 use Rattle.text_answers.specs.Answers.{answer_line, shown_text, shown_line}
 use Rattle.trace_session.specs.Tracing.{Session, part_in, traced, answer_to}
@@ -38,7 +39,7 @@ events_seen part s (l ∷ lines) more [] says = absurd says
 events_seen part s (l ∷ lines) more (e ∷ es) says =
     let p : Part = part_of part in
     let o : Outcome = stepped p s e.kind e.arg in
-    ap (λ (x : Line). (traced (With part s) x).line ++ answers_from answer_to (traced (With part s) x).after (lines ++ more)) says.0
+    ap (λ (x : Option Line). (traced (With part s) x).line ++ answers_from answer_to (traced (With part s) x).after (lines ++ more)) says.0
     ∙ ap (λ (t : List ℕ). shown_line p o ++ t) (events_seen part o.after lines more es says.1)
     ∙ sym (append_assoc (shown_line p o) (seen_lines p (seen_from p o.after es)) (answers_from answer_to (With part (after p o.after es)) more))
 
@@ -51,7 +52,7 @@ life_seen x [] more d says = absurd says
 life_seen x (l ∷ lines) more d says =
     let p : Part = part_of d.part in
     let s : State = power_on p d.choice d.levels 0 in
-    ap (λ (y : Line). (traced x y).line ++ answers_from answer_to (traced x y).after (lines ++ more)) says.0
+    ap (λ (y : Option Line). (traced x y).line ++ answers_from answer_to (traced x y).after (lines ++ more)) says.0
     ∙ ap (λ (t : List ℕ). shown_line p (out Nothing s) ++ t) (events_seen d.part s lines more d.events says.1)
     ∙ sym (append_assoc (shown_line p (out Nothing s)) (seen_lines p (seen_from p s d.events)) (answers_from answer_to (With d.part (after p s d.events)) more))
 
@@ -90,14 +91,14 @@ module _ (p : Part) where
     answers = ap (λ (o : Outcome). refusal_number o.answer) (sym (taken p s kind arg unrefused)) ∙ step_answers p s (event_of kind arg)
 
 -- each line's answer, and what there is after it
-said : (x : Session) → Fine x → (l : Line) → Means (part_in x) l → Answered (traced x l).line × Fine (traced x l).after
+said : (x : Session) → Fine x → (l : Option Line) → Means (part_in x) l → Answered (traced x l).line × Fine (traced x l).after
 unfolding traced
-said x g Unreadable m = (inl refl, g)
-said x g (Device part choice levels) m =
-    let h = m.makes part choice levels refl in
-    (inr (part, out Nothing (power_on (part_of part) choice levels 0), refl, refl), power_on_fits (part_of part) (lawful part) choice levels 0 (omega (arith, h.1)) h.2 (omega arith))
-said NoDevice g (Event kind arg) m = (inl refl, tt)
-said (With part s) g (Event kind arg) m =
+said x g None m = (inl refl, g)
+said x g (Some (Device made)) m =
+    let h = m.makes made refl in
+    (inr (made.part, out Nothing (power_on (part_of made.part) made.choice made.levels 0), refl, refl), power_on_fits (part_of made.part) (lawful made.part) made.choice made.levels 0 (omega (arith, h.1)) h.2 (omega arith))
+said NoDevice g (Some (Event kind arg)) m = (inl refl, tt)
+said (With part s) g (Some (Event kind arg)) m =
     (inr (part, stepped (part_of part) s kind arg, answers (part_of part) s g kind arg (m.takes kind arg refl), refl), stepped_keeps (part_of part) (lawful part) s g kind arg)
 
 all_answered : (x : Session) → Fine x → (lines : List (List ℕ)) → AllAnswered x lines

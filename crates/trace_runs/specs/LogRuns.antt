@@ -1,5 +1,5 @@
 -- A log beside the devices' runs: what its answers say, and which refusals there are in it.
-use Rattle.std.specs.Prelude.{◌≡◌, List, [], ◌∷◌, ◌++◌, ◌⊎◌, ℕ}
+use Rattle.std.specs.Prelude.{Some, ◌≡◌, List, [], ◌∷◌, ◌++◌, ◌⊎◌, ℕ}
 use Rattle.map.specs.Map.{Part, part_of}
 use Rattle.device_rules.specs.Device.{Outcome}
 use Rattle.device_rules.specs.Answers.{refusal_number}
@@ -34,12 +34,12 @@ abbrev pub SayEvents : Part → (lines : List (List ℕ)) → List Asked → Typ
 SayEvents p [] [] = Unit {0}
 SayEvents p [] (e ∷ es) = ⊥
 SayEvents p (l ∷ lines) [] = ⊥
-SayEvents p (l ∷ lines) (e ∷ es) = (line_of p l ≡ Event e.kind e.arg) × SayEvents p lines es
+SayEvents p (l ∷ lines) (e ∷ es) = (line_of p l ≡ Some (Event e.kind e.arg)) × SayEvents p lines es
 
 -- lines of which the first makes the device, where there is one of this part, and the others say its events
 abbrev pub SayLife : Part → (lines : List (List ℕ)) → Life → Type 0
 SayLife p [] d = ⊥
-SayLife p (l ∷ lines) d = (line_of p l ≡ Device d.part d.choice d.levels) × SayEvents (part_of d.part) lines d.events
+SayLife p (l ∷ lines) d = (line_of p l ≡ Some (Device (record { part = d.part; choice = d.choice; levels = d.levels }))) × SayEvents (part_of d.part) lines d.events
 
 -- the same for one device after the other, each of either part
 abbrev pub SayLives : Part → (groups : List (List (List ℕ))) → List Life → Type 0

@@ -17,7 +17,9 @@ use Rattle.words_state.specs.Packed.{state_in, Packed}
 use Rattle.text.specs.Text.{Wrote}
 use Rattle.text.proofs.Laws.{wrote_as}
 use Rattle.trace_lines.specs.declared.Line.{Line}
-use Rattle.trace_lines.specs.declared.Line.TheVariants.{Event, Unreadable, Device as MadeLine}
+use Rattle.trace_lines.specs.declared.Line.TheVariants.{Event, Device as MadeLine}
+use Rattle.trace_lines.specs.declared.Made.{Made}
+use Rattle.std.specs.Prelude.{Option, Some, None}
 use Rattle.trace_lines.specs.Lines.{line_of}
 use Rattle.text_logs.specs.Lines.{Says}
 use Rattle.text_answers.specs.Answers.{shown_line, refused_line}
@@ -45,11 +47,11 @@ refused_said x w = record { says = w; goes_on = refl }
 
 module _ (words : List ℕ) (kind arg : ℕ) where
   pub event_told : get_or words 27 0 < 2
-      → told_by (get_or words 27 0) (stepped (part_of (get_or words 27 0)) (state_in (part_of (get_or words 27 0)) words) kind arg) ≡ traced (session_of words) (Event kind arg)
+      → told_by (get_or words 27 0) (stepped (part_of (get_or words 27 0)) (state_in (part_of (get_or words 27 0)) words) kind arg) ≡ traced (session_of words) (Some (Event kind arg))
   unfolding traced
   event_told h = rw (lt-ltb (get_or words 27 0) 2 h)
 
-  pub event_refused : 2 ≤ get_or words 27 0 → unreadable (session_of words) ≡ traced (session_of words) (Event kind arg)
+  pub event_refused : 2 ≤ get_or words 27 0 → unreadable (session_of words) ≡ traced (session_of words) (Some (Event kind arg))
   unfolding traced
   event_refused h = rw (le-ltb (get_or words 27 0) 2 h)
 
@@ -65,11 +67,11 @@ part_here words = sym (go (get_or words 27 0))
 pub line_here : (words text : List ℕ) → line_of (part_of (get_or words 27 0)) text ≡ line_of (part_in (session_of words)) text
 line_here words text = ap (λ (p : Part). line_of p text) (part_here words)
 
-module _ (x : Session) (said : Line) (text : List ℕ) (read : said ≡ line_of (part_in x) text) where
-  pub device_told : {part choice levels : ℕ} → said ≡ MadeLine part choice levels → told_by part (out Nothing (power_on (part_of part) choice levels 0)) ≡ answer_to x text
+module _ (x : Session) (said : Option Line) (text : List ℕ) (read : said ≡ line_of (part_in x) text) where
+  pub device_told : {m : Made} → said ≡ Some (MadeLine m) → told_by m.part (out Nothing (power_on (part_of m.part) m.choice m.levels 0)) ≡ answer_to x text
   unfolding traced
   device_told e = rw (← read, e)
 
-  pub unreadable_said : said ≡ Unreadable → unreadable x ≡ answer_to x text
+  pub unreadable_said : said ≡ None → unreadable x ≡ answer_to x text
   unfolding traced
   unreadable_said e = rw (← read, e)

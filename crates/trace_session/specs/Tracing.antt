@@ -9,7 +9,7 @@ use Rattle.words_state.specs.Packed.{part_word, state_in}
 use Rattle.words_device.specs.Named.{Named}
 use Rattle.text_logs.specs.Lines.{Reply}
 use Rattle.trace_lines.specs.declared.Line.{Line}
-use Rattle.trace_lines.specs.declared.Line.TheVariants.{Device, Event, Unreadable}
+use Rattle.trace_lines.specs.declared.Line.TheVariants.{Device, Event}
 use Rattle.trace_lines.specs.Lines.{line_of}
 use Rattle.text_answers.specs.Answers.{shown_line, refused_line}
 use Rattle.trace_columns.specs.Columns.{Told, Fresh}
@@ -50,11 +50,11 @@ abbrev pub unreadable : Session → Traced
 unreadable x = record { line = refused_line 7; after = x }
 
 -- An event before a device is unreadable; a device line starts anew, with the Device ID 0.
-unfoldable pub traced : Session → Line → Traced
-traced x Unreadable = unreadable x
-traced x (Device part choice levels) = told_by part (out Nothing (power_on (part_of part) choice levels 0))
-traced NoDevice (Event kind arg) = unreadable NoDevice
-traced (With part s) (Event kind arg) = told_by part (stepped (part_of part) s kind arg)
+unfoldable pub traced : Session → Option Line → Traced
+traced x None = unreadable x
+traced x (Some (Device made)) = told_by made.part (out Nothing (power_on (part_of made.part) made.choice made.levels 0))
+traced NoDevice (Some (Event kind arg)) = unreadable NoDevice
+traced (With part s) (Some (Event kind arg)) = told_by part (stepped (part_of part) s kind arg)
 
 -- the answer to a line of text
 abbrev pub answer_to : Session → (text : List ℕ) → Traced

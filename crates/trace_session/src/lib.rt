@@ -1,7 +1,7 @@
 // The trace program's work: one line in, one line out, on a session that holds the device, once a line has made one.
 #![tactic(auto)]
 
-ghost use Rattle.std.specs.Prelude.{◌≡◌, ◌+◌, ◌^◌, ◌<◌, ◌≤◌, length, IsSome};
+ghost use Rattle.std.specs.Prelude.{◌≡◌, ◌+◌, ◌^◌, ◌<◌, ◌≤◌, length, IsSome, Some};
 ghost use Rattle.map.specs.Map.{part_of};
 ghost use Rattle.device_rules.specs.Device.{out as outcome};
 ghost use Rattle.device_rules.specs.declared.Answer.TheVariants.{Nothing};
@@ -103,7 +103,7 @@ impl Session {
     // An event, on the device if there is one; its answer's line is put.
     pub fn event(&mut self, kind: u32, arg: u64, out: &mut [u8], at: usize) -> usize
         requires { at + 26 ≤ length out.old }
-        ensures { Says (traced self.old (Line.Event kind arg)) out.old at result out.new self.new }
+        ensures { Says (traced self.old (Some (Line.Event kind arg))) out.old at result out.new self.new }
     {
         if self.words[PART] < NO_PART {
             let answer = words_device::event(&mut self.words, kind, arg);
@@ -121,13 +121,9 @@ impl AnswersLines for Session {
 
     fn answer_line(&mut self, line: &[u8], out: &mut [u8], at: usize) -> usize {
         match trace_lines::read(line, self.words[PART]) {
-            Line::Device {
-                part,
-                choice,
-                levels,
-            } => self.make(part, choice, levels, out, at),
-            Line::Event { kind, arg } => self.event(kind, arg, out, at),
-            Line::Unreadable => refuse(out, at),
+            Some(Line::Device(made)) => self.make(made.part, made.choice, made.levels, out, at),
+            Some(Line::Event { kind, arg }) => self.event(kind, arg, out, at),
+            None => refuse(out, at),
         }
     }
 

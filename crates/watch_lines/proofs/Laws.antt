@@ -16,24 +16,25 @@ use Rattle.text.proofs.Laws.{rest, starts_short, field_small}
 use Rattle.text_answers.specs.Answers.{digits_of}
 use Rattle.trace_lines.specs.Lines.{line_of, levels_of, tab, device, device34, device_of as tracedDevice, device_with as tracedWith, Taken, Means as TraceMeans}
 use Rattle.trace_lines.specs.declared.Line.{Line}
+use Rattle.trace_lines.specs.declared.Made.{Made}
 use Rattle.trace_lines.specs.declared.Line.TheVariants as trace
 use Rattle.trace_lines.proofs.Laws.{line_means, line_tiny, line_long}
-use Rattle.watch_lines.specs.declared.Said.TheVariants.{Event, Unreadable}
+use Rattle.watch_lines.specs.declared.Said.TheVariants.{Event}
 use Rattle.watch_lines.specs.Watching.{sign, sign_with, device_with, device_of, own_of, said_as, said_by, Means}
 
 -- ---- a device
 module _ (part : ℕ) (s : List ℕ) (digits : ℕ) (are : digits ≡ digits_of (part_of part)) where
-  by_digits : (n : ℕ) → n ≡ digits_of (part_of part) → starts_with tab (drop (n + 2) s) ≡ false → Unreadable ≡ device_of part s
+  by_digits : (n : ℕ) → n ≡ digits_of (part_of part) → starts_with tab (drop (n + 2) s) ≡ false → None ≡ device_of part s
   unfolding device_of
   by_digits n e h = rw (← e) (rw h refl)
 
-  pub device_short : length s < digits + 2 + 1 → Unreadable ≡ device_of part s
+  pub device_short : length s < digits + 2 + 1 → None ≡ device_of part s
   device_short h = by_digits digits are (starts_short tab (drop (digits + 2) s) (omega (arith, length-drop (digits + 2) s)))
 
-  pub device_no_tab : starts_with tab (take (length s - (digits + 2)) (drop (digits + 2) s)) ≡ false → Unreadable ≡ device_of part s
+  pub device_no_tab : starts_with tab (take (length s - (digits + 2)) (drop (digits + 2) s)) ≡ false → None ≡ device_of part s
   device_no_tab h = by_digits digits are (rw rest at h)
 
-  pub device_fields : {made : Line} {healthy : Option ℕ} (most : ℕ) → most ≡ 2 ^ (part_of part).width - 1 → made ≡ tracedDevice part (take (digits + 2 - 0) s)
+  pub device_fields : {made : Option Made} {healthy : Option ℕ} (most : ℕ) → most ≡ 2 ^ (part_of part).width - 1 → made ≡ tracedDevice part (take (digits + 2 - 0) s)
       → healthy ≡ field_of digits most (take (length s - (digits + 2 + 1)) (drop (digits + 2 + 1) s))
       → starts_with tab (take (length s - (digits + 2)) (drop (digits + 2) s)) ≡ true → device_with made healthy ≡ device_of part s
   unfolding device_of
@@ -43,7 +44,7 @@ module _ (part : ℕ) (s : List ℕ) (digits : ℕ) (are : digits ≡ digits_of 
 
 -- ---- a line that is no trace's
 module _ (s : List ℕ) where
-  pub own_long : 32 < length s → Unreadable ≡ own_of s
+  pub own_long : 32 < length s → None ≡ own_of s
   unfolding own_of
   own_long long = rw (lt-ltb 32 (length s) long)
 
@@ -62,40 +63,40 @@ module _ (s : List ℕ) where
         unfolding own_of
         own_sister h = rw (le-ltb 32 (length s) short, no_sign, no_device, h, rest)
 
-        pub own_none : starts_with device34 s ≡ false → Unreadable ≡ own_of s
+        pub own_none : starts_with device34 s ≡ false → None ≡ own_of s
         unfolding own_of
         own_none h = rw (le-ltb 32 (length s) short, no_sign, no_device, h)
 
   -- no line of two bytes or fewer says anything
-  own_tiny : length s < 3 → own_of s ≡ Unreadable
+  own_tiny : length s < 3 → own_of s ≡ None
   unfolding own_of
   own_tiny h =
       rw (le-ltb 32 (length s) (omega arith), starts_short sign s (omega arith), starts_short device s (omega arith), starts_short device34 s (omega arith))
 
-  pub said_tiny : (p : Part) → length s < 3 → said_by p s ≡ Unreadable
-  said_tiny p h = ap (λ (l : Line). said_as l s) (line_tiny p s h) ∙ own_tiny h
+  pub said_tiny : (p : Part) → length s < 3 → said_by p s ≡ None
+  said_tiny p h = ap (λ (l : Option Line). said_as l s) (line_tiny p s h) ∙ own_tiny h
 
-  pub said_long : (p : Part) → 32 < length s → Unreadable ≡ said_by p s
-  said_long p h = own_long h ∙ ap (λ (l : Line). said_as l s) (line_long p s h)
+  pub said_long : (p : Part) → 32 < length s → None ≡ said_by p s
+  said_long p h = own_long h ∙ ap (λ (l : Option Line). said_as l s) (line_long p s h)
 
 -- ---- what is read can be made, or is not refused
 module _ (p : Part) where
-  none : Means p Unreadable
+  none : Means p None
   none = record {
-    makes = λ q c l h e. (let z : ◌≡◌ {A = ℕ} 0 1 = cc in absurd (omega arith));
+    makes = λ m h e. (let z : ◌≡◌ {A = ℕ} 0 1 = cc in absurd (omega arith));
     takes = λ k a e. (let z : ◌≡◌ {A = ℕ} 0 1 = cc in absurd (omega arith));
   }
 
   signs : (d : Option ℕ) → Means p (sign_with d)
   signs (Some n) = record {
-    makes = λ q c l h e. (let z : ◌≡◌ {A = ℕ} 0 1 = cc in absurd (omega arith));
+    makes = λ m h e. (let z : ◌≡◌ {A = ℕ} 0 1 = cc in absurd (omega arith));
     takes = λ k a e. (let z : ◌≡◌ {A = ℕ} 0 1 = cc in absurd (omega arith));
   }
   signs None = none
 
-  event : (kind arg : ℕ) → Taken p kind arg → Means p (Event kind arg)
+  event : (kind arg : ℕ) → Taken p kind arg → Means p (Some (Event kind arg))
   event kind arg t = record {
-    makes = λ q c l h e. (let z : ◌≡◌ {A = ℕ} 0 1 = cc in absurd (omega arith));
+    makes = λ m h e. (let z : ◌≡◌ {A = ℕ} 0 1 = cc in absurd (omega arith));
     takes = λ k a e. (
         let s : kind ≡ k = cc in
         let q : arg ≡ a = cc in
@@ -107,12 +108,10 @@ module _ (p : Part) where
 
   made : (part : ℕ) → part < 2 → (c l h : Option ℕ) → Small 3 c → Small (2 ^ (part_of part).width - 1) l → Small (2 ^ (part_of part).width - 1) h → Means p (device_with (tracedWith part c l) h)
   made part two (Some c) (Some l) (Some h) a b d = record {
-    makes = λ q choice levels healthy e. (
-        let s : part ≡ q = cc in
-        let t : c ≡ choice = cc in
-        let u : l ≡ levels = cc in
+    makes = λ m healthy e. (
+        let s : record { part = part; choice = c; levels = l } ≡ m = cc in
         let v : h ≡ healthy = cc in
-        (omega arith, omega (arith, a.small c refl), rw (← s, ← u) (small part b l refl), rw (← s, ← v) (small part d h refl)));
+        rw (← s, ← v) (two, omega (arith, a.small c refl), small part b l refl, small part d h refl));
     takes = λ k g e. (let z : ◌≡◌ {A = ℕ} 0 1 = cc in absurd (omega arith));
   }
   made part two (Some c) (Some l) None a b d = none
@@ -123,7 +122,7 @@ module _ (p : Part) where
   unfolding device_of tracedDevice
   device_means part two s =
       either_arm (Means p) (starts_with tab (drop (digits_of (part_of part) + 2) s))
-      (either_arm (λ (l : Line). Means p (device_with l (levels_of (part_of part) (drop (digits_of (part_of part) + 2 + 1) s)))) (starts_with tab (drop 1 (take (digits_of (part_of part) + 2) s)))
+      (either_arm (λ (l : Option Made). Means p (device_with l (levels_of (part_of part) (drop (digits_of (part_of part) + 2 + 1) s)))) (starts_with tab (drop 1 (take (digits_of (part_of part) + 2) s)))
       (made part two _ _ _ (field_small 1 3 _) (field_small (digits_of (part_of part)) (2 ^ (part_of part).width - 1) _) (field_small (digits_of (part_of part)) (2 ^ (part_of part).width - 1) _))
       none)
       none
@@ -136,10 +135,10 @@ module _ (p : Part) where
       (either_arm (Means p) (starts_with device s) (device_means 0 (omega arith) (drop 7 s))
       (either_arm (Means p) (starts_with device34 s) (device_means 1 (omega arith) (drop 9 s)) none)))
 
-  as_means : (l : Line) → TraceMeans p l → (s : List ℕ) → Means p (said_as l s)
-  as_means (trace.Event kind arg) m s = event kind arg (m.takes kind arg refl)
-  as_means (trace.Device part choice levels) m s = none
-  as_means trace.Unreadable m s = own_means s
+  as_means : (l : Option Line) → TraceMeans p l → (s : List ℕ) → Means p (said_as l s)
+  as_means (Some (trace.Event kind arg)) m s = event kind arg (m.takes kind arg refl)
+  as_means (Some (trace.Device made)) m s = none
+  as_means None m s = own_means s
 
   pub said_means : (s : List ℕ) → Means p (said_by p s)
   said_means s = as_means (line_of p s) (line_means p s) s

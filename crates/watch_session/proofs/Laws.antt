@@ -25,6 +25,7 @@ use Rattle.text_logs.specs.Lines.{Says}
 use Rattle.text_logs.proofs.Laws.{says_as}
 use Rattle.trace_lines.specs.Lines.{Taken}
 use Rattle.trace_lines.proofs.Laws.{taken_fits}
+use Rattle.trace_lines.specs.declared.Made.{Made}
 use Rattle.trace_lines.specs.declared.Line.TheVariants.{Event as TracedEvent}
 use Rattle.trace_session.specs.Tracing.{Session as TraceSession, session_of, part_number, traced, told_by as traceTold, part_in as trace_part, Kept as TraceKept, standing_line}
 use Rattle.trace_session.specs.Tracing.Session.{NoDevice as NotTraced, With as Traced}
@@ -39,7 +40,7 @@ use Rattle.watch_answers.specs.Marked.{marked_line, refusal_line}
 use Rattle.watch_answers.proofs.Lines.{with_marks, room_left}
 use Rattle.watch_lines.specs.Watching.{said_by}
 use Rattle.watch_lines.specs.declared.Said.{Said}
-use Rattle.watch_lines.specs.declared.Said.TheVariants.{Device, Event, SignOff, Unreadable}
+use Rattle.watch_lines.specs.declared.Said.TheVariants.{Device, Event, SignOff}
 use Rattle.watch_session.specs.Watch.{Session, watching, fitting, part_in, told_by, refused_by, signed_by, marked_by, watched, answer_to}
 use Rattle.watch_session.specs.Watch.Session.{NoDevice, With}
 
@@ -138,16 +139,16 @@ module _ {x : TraceSession} {y : Session} {c : ℕ} {w m : List ℕ} (d : Standi
   unfolding marked_step
   of_step = ap (λ (t : Bool). told_by c (cond t o (out (Refused 3) here)) (marks_after p here (event_of kind arg) (cond t o (out (Refused 3) here)) (marks_in m))) d.fits
 
-  watched_event : marked_by c (marked_step p here (marks_in m) kind arg) ≡ watched y (Event kind arg)
+  watched_event : marked_by c (marked_step p here (marks_in m) kind arg) ≡ watched y (Some (Event kind arg))
   unfolding watched
-  watched_event = ap (λ (y : Session). watched y (Event kind arg)) d.seen
+  watched_event = ap (λ (y : Session). watched y (Some (Event kind arg))) d.seen
 
   -- what a trace says of it is what it shows
-  event_traced : traced x (TracedEvent kind arg) ≡ traceTold c o
+  event_traced : traced x (Some (TracedEvent kind arg)) ≡ traceTold c o
   unfolding traced
-  event_traced = ap (λ (x : TraceSession). traced x (TracedEvent kind arg)) d.is
+  event_traced = ap (λ (x : TraceSession). traced x (Some (TracedEvent kind arg))) d.is
 
-  module _ {x' : TraceSession} {lent middle : List ℕ} {at end : ℕ} (told : Says (traced x (TracedEvent kind arg)) lent at end middle x') where
+  module _ {x' : TraceSession} {lent middle : List ℕ} {at end : ℕ} (told : Says (traced x (Some (TracedEvent kind arg))) lent at end middle x') where
     pub event_room : at + 36 ≤ length lent → (0 < end) × (end + 10 ≤ length middle)
     event_room room = room_left c o (says_as event_traced told).says room
 
@@ -170,7 +171,7 @@ module _ {x : TraceSession} {y : Session} {c : ℕ} {w m : List ℕ} (d : Standi
 
       pub event_says : {left : List ℕ} {last : ℕ}
           → ((lent : List ℕ) (at : ℕ) (text : List ℕ) → Wrote lent at (text ++ newline) end middle → Wrote lent at (text ++ ((0x09 ∷ hex_text (digits_of p) (get_or m' 0 0)) ++ newline)) last left)
-          → Says (watched y (Event kind arg)) lent at last left (watching x' (marks_in m'))
+          → Says (watched y (Some (Event kind arg))) lent at last left (watching x' (marks_in m'))
       event_says put = says_as (sym of_step ∙ watched_event) (told_says c o m' goes marks_are (with_marks p o (get_or m' 0 0) event_answers (says_as event_traced told).says put))
 
 -- ---- a sign-off
@@ -203,9 +204,9 @@ module _ {x : TraceSession} {y : Session} {c : ℕ} {w m : List ℕ} (d : Standi
   pub number_few : number < 256
   number_few = rw (g.number_is d.packed, refusal_is) (few q s (marks_in m) pin)
 
-  watched_sign : signed_by c s (marks_in m) r ≡ watched y (SignOff pin)
+  watched_sign : signed_by c s (marks_in m) r ≡ watched y (Some (SignOff pin))
   unfolding watched
-  watched_sign = ap (λ (y : Session). watched y (SignOff pin)) d.seen
+  watched_sign = ap (λ (y : Session). watched y (Some (SignOff pin))) d.seen
 
   pub signed_fits : fitting x (marks_in m') ≡ true
   signed_fits = fitting_device c (marks_in m') d.is ∙ ap (marks_fit q) (g.marks_are d.packed) ∙ fit_signed q s (marks_in m) pin d.fits
@@ -220,13 +221,13 @@ module _ {x : TraceSession} {y : Session} {c : ℕ} {w m : List ℕ} (d : Standi
 
     pub signed_says : number ≡ 0 → {left : List ℕ} {last : ℕ}
         → ((lent : List ℕ) (at : ℕ) (text : List ℕ) → Wrote lent at (text ++ newline) end middle → Wrote lent at (text ++ ((0x09 ∷ hex_text (digits_of q) (get_or m' 0 0)) ++ newline)) last left)
-        → Says (watched y (SignOff pin)) lent at last left (watching x (marks_in m'))
+        → Says (watched y (Some (SignOff pin))) lent at last left (watching x (marks_in m'))
     signed_says z put =
         says_as (ap (λ (t : Bool). cond t (told_by c (out Nothing s) r.marks) (refused_by (With c s (marks_in m)) r.refusal)) (sym (eq-eqb r.refusal 0 (sym (g.number_is d.packed) ∙ z))) ∙ watched_sign)
         (told_says c (out Nothing s) m' d.is (g.marks_are d.packed) (with_marks q (out Nothing s) (get_or m' 0 0) refl line_is put))
 
   -- refused: nothing changes
-  pub unsigned_says : (number ≡ 0 → ⊥) → {lent left : List ℕ} {at end : ℕ} → Wrote lent at (refusal_line number) end left → Says (watched y (SignOff pin)) lent at end left (watching x (marks_in m'))
+  pub unsigned_says : (number ≡ 0 → ⊥) → {lent left : List ℕ} {at end : ℕ} → Wrote lent at (refusal_line number) end left → Says (watched y (Some (SignOff pin))) lent at end left (watching x (marks_in m'))
   unsigned_says z v =
       rw (g.refused z, watching_device c (marks_in m) d.is)
       (says_as (ap (refused_by (With c s (marks_in m))) (g.number_is d.packed)
@@ -238,11 +239,11 @@ module _ {x : TraceSession} {y : Session} (m : Marks) (none : x ≡ NotTraced) (
   no_device_there : y ≡ NoDevice
   no_device_there = sym is ∙ ap (λ (x : TraceSession). watching x m) none
 
-  pub event_none : (kind arg : ℕ) → Says (watched y (Event kind arg)) lent at end left y
+  pub event_none : (kind arg : ℕ) → Says (watched y (Some (Event kind arg))) lent at end left y
   unfolding watched
   event_none kind arg = rw no_device_there (refused_says NoDevice 7 v)
 
-  pub sign_none : (pin : ℕ) → Says (watched y (SignOff pin)) lent at end left y
+  pub sign_none : (pin : ℕ) → Says (watched y (Some (SignOff pin))) lent at end left y
   unfolding watched
   sign_none pin = rw no_device_there (refused_says NoDevice 7 v)
 
@@ -255,12 +256,12 @@ same_part (Traced q s) m = refl
 pub line_here : (w text : List ℕ) {x : TraceSession} (m : Marks) → session_of w ≡ x → said_by (part_of (get_or w 27 0)) text ≡ said_by (part_in (watching x m)) text
 line_here w text {x} m is = ap (λ (p : Part). said_by p text) (part_here w ∙ ap trace_part is ∙ same_part x m)
 
-module _ (x : Session) (said : Said) (text : List ℕ) (read : said ≡ said_by (part_in x) text) where
-  pub device_said : {part choice levels healthy : ℕ} → said ≡ Device part choice levels healthy
-      → told_by part (out Nothing (power_on (part_of part) choice levels 0)) (new_marks (part_of part) healthy) ≡ answer_to x text
+module _ (x : Session) (said : Option Said) (text : List ℕ) (read : said ≡ said_by (part_in x) text) where
+  pub device_said : {m : Made} {healthy : ℕ} → said ≡ Some (Device m healthy)
+      → told_by m.part (out Nothing (power_on (part_of m.part) m.choice m.levels 0)) (new_marks (part_of m.part) healthy) ≡ answer_to x text
   unfolding watched
   device_said e = ap (watched x) (sym e ∙ read)
 
-  pub unreadable_said : said ≡ Unreadable → refused_by x 7 ≡ answer_to x text
+  pub unreadable_said : said ≡ None → refused_by x 7 ≡ answer_to x text
   unfolding watched
   unreadable_said e = ap (watched x) (sym e ∙ read)

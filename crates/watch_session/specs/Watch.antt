@@ -1,5 +1,5 @@
 -- One line in, one line out: a trace with the loss marks beside the device.
-use Rattle.std.specs.Prelude.{Bool, true, cond, List, ℕ, eqb}
+use Rattle.std.specs.Prelude.{Option, Some, None, Bool, true, cond, List, ℕ, eqb}
 use Rattle.map.specs.Map.{Part, part34, part_of}
 use Rattle.device_rules.specs.Device.{State, Outcome, out}
 use Rattle.device_rules.specs.declared.Answer.TheVariants.{Nothing}
@@ -11,7 +11,7 @@ use Rattle.trace_session.specs.Tracing.Session.{NoDevice as NotTraced, With as T
 use Rattle.watch_answers.specs.Marked.{marked_line, refusal_line}
 use Rattle.watch_lines.specs.Watching.{said_by}
 use Rattle.watch_lines.specs.declared.Said.{Said}
-use Rattle.watch_lines.specs.declared.Said.TheVariants.{Device, Event, SignOff, Unreadable}
+use Rattle.watch_lines.specs.declared.Said.TheVariants.{Device, Event, SignOff}
 
 -- no device yet, or one of this part in this state with these marks
 pub data Session : Type 0 where
@@ -48,13 +48,13 @@ abbrev pub marked_by : (part : ℕ) → Marked → Reply Session
 marked_by part r = told_by part (out r.answer r.after) r.marks
 
 -- An event or a sign-off before a device is unreadable, refusal 7; a device line makes device and marks anew, the Device ID 0.
-unfoldable pub watched : Session → Said → Reply Session
-watched x Unreadable = refused_by x 7
-watched x (Device part choice levels healthy) = told_by part (out Nothing (power_on (part_of part) choice levels 0)) (new_marks (part_of part) healthy)
-watched NoDevice (Event kind arg) = refused_by NoDevice 7
-watched (With part s m) (Event kind arg) = marked_by part (marked_step (part_of part) s m kind arg)
-watched NoDevice (SignOff pin) = refused_by NoDevice 7
-watched (With part s m) (SignOff pin) = signed_by part s m (sign_off (part_of part) s m pin)
+unfoldable pub watched : Session → Option Said → Reply Session
+watched x None = refused_by x 7
+watched x (Some (Device made healthy)) = told_by made.part (out Nothing (power_on (part_of made.part) made.choice made.levels 0)) (new_marks (part_of made.part) healthy)
+watched NoDevice (Some (Event kind arg)) = refused_by NoDevice 7
+watched (With part s m) (Some (Event kind arg)) = marked_by part (marked_step (part_of part) s m kind arg)
+watched NoDevice (Some (SignOff pin)) = refused_by NoDevice 7
+watched (With part s m) (Some (SignOff pin)) = signed_by part s m (sign_off (part_of part) s m pin)
 
 -- the answer to a line of text
 abbrev pub answer_to : Session → (text : List ℕ) → Reply Session

@@ -1,7 +1,7 @@
 // The watch program's work: one line in, one line out, as a trace has it, with the loss marks beside the device and at the end of each line; sign-offs among them.
 #![tactic(auto)]
 
-ghost use Rattle.std.specs.Prelude.{◌≡◌, ◌+◌, ◌^◌, ◌<◌, ◌≤◌, length};
+ghost use Rattle.std.specs.Prelude.{◌≡◌, ◌+◌, ◌^◌, ◌<◌, ◌≤◌, length, Some};
 ghost use Rattle.map.specs.Map.{part_of};
 ghost use Rattle.device_rules.specs.Device.{out as outcome};
 ghost use Rattle.device_rules.specs.declared.Answer.TheVariants.{Nothing};
@@ -71,7 +71,7 @@ impl Watch {
     // An event, on the device if there is one; what it sets is marked.
     pub fn event(&mut self, kind: u32, arg: u64, out: &mut [u8], at: usize) -> usize
         requires { Taken (part_in self.old) kind arg × (at + 36 ≤ length out.old) }
-        ensures { Says (watched self.old (Said.Event kind arg)) out.old at result out.new self.new }
+        ensures { Says (watched self.old (Some (Said.Event kind arg))) out.old at result out.new self.new }
     {
         let Some(part) = self.session.part() else {
             return watch_answers::refuse(out, at);
@@ -88,7 +88,7 @@ impl Watch {
     // A sign-off, on the device if there is one.
     pub fn sign(&mut self, pin: u32, out: &mut [u8], at: usize) -> usize
         requires { at + 36 ≤ length out.old }
-        ensures { Says (watched self.old (Said.SignOff pin)) out.old at result out.new self.new }
+        ensures { Says (watched self.old (Some (Said.SignOff pin))) out.old at result out.new self.new }
     {
         let Some(part) = self.session.part() else {
             return watch_answers::refuse(out, at);
@@ -109,15 +109,12 @@ impl AnswersLines for Watch {
 
     fn answer_line(&mut self, line: &[u8], out: &mut [u8], at: usize) -> usize {
         match watch_lines::read(line, self.session.words()[PART]) {
-            Said::Device {
-                part,
-                choice,
-                levels,
-                healthy,
-            } => self.make(part, choice, levels, healthy, out, at),
-            Said::Event { kind, arg } => self.event(kind, arg, out, at),
-            Said::SignOff { pin } => self.sign(pin, out, at),
-            Said::Unreadable => watch_answers::refuse(out, at),
+            Some(Said::Device { made, healthy }) => {
+                self.make(made.part, made.choice, made.levels, healthy, out, at)
+            }
+            Some(Said::Event { kind, arg }) => self.event(kind, arg, out, at),
+            Some(Said::SignOff { pin }) => self.sign(pin, out, at),
+            None => watch_answers::refuse(out, at),
         }
     }
 

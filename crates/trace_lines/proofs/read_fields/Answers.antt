@@ -1,9 +1,9 @@
 -- `trace_lines::read_fields`: each test decides one step of `fields_of`; a line that begins with a word is as long as the word. Assumes nothing.
 use borrow.Author.Rules.{rules}
-use mathlib.Core.Path.{refl, sym, ◌∙◌}
+use mathlib.Core.Path.{refl, ap, sym, ◌∙◌}
 use native.Mathlib.Omega.{arith}
 use Rattle.map.specs.Map.{part_of}
-use Rattle.trace_lines.specs.Lines.{fields_of, byte, fetch, pins}
+use Rattle.trace_lines.specs.Lines.{made_line, fields_of, byte, fetch, pins}
 use Rattle.trace_lines.proofs.Laws.{starts_long, fields_fetch, fields_pins, fields_device}
 use Rattle.trace_lines.proofs.read_fields.Goals as goal
 
@@ -32,8 +32,15 @@ returns-then-starts-3 c =
     ∙ fields_pins (part_of c.args.part) _ (sym c.starts.ensures ∙ c.if-starts.false) (sym c.starts-2.ensures ∙ c.if-starts-2.false)
     _ _ c.digits_of-digits.ensures.0 c.pins_of.ensures (sym c.starts-3.ensures ∙ c.if-starts-3.true)
 
+pub returns-in_err-made : goal.returns-in_err-made
+returns-in_err-made c =
+    c.from_residual.ensures
+    ∙ ap made_line (sym c.in_err-made.was ∙ c.read_device.ensures)
+    ∙ fields_device (part_of c.args.part) _ (sym c.starts.ensures ∙ c.if-starts.false) (sym c.starts-2.ensures ∙ c.if-starts-2.false)
+    (sym c.starts-3.ensures ∙ c.if-starts-3.false)
+
 pub returns : goal.returns
 returns c =
-    c.read_device.ensures
+    ap made_line (sym c.in_ok-made.was ∙ c.read_device.ensures)
     ∙ fields_device (part_of c.args.part) _ (sym c.starts.ensures ∙ c.if-starts.false) (sym c.starts-2.ensures ∙ c.if-starts-2.false)
     (sym c.starts-3.ensures ∙ c.if-starts-3.false)

@@ -18,11 +18,19 @@ slice_bounds-field-count c = let l = starts_long sign _ (sym c.starts.ensures �
 pub slice_bounds-field-start : goal.slice_bounds-field-start
 slice_bounds-field-start c = let l = starts_long sign _ (sym c.starts.ensures ∙ c.if-starts.true) in search rules
 
-pub sign_with-requires : goal.sign_with-requires
-sign_with-requires c = rw c.field.ensures (field_small 2 0xff _)
+pub returns-in_err-pin : goal.returns-in_err-pin
+returns-in_err-pin c =
+    c.from_residual.ensures
+    ∙ ap sign_with (sym c.in_err-pin.was ∙ c.field.ensures)
+    ∙ own_sign _ (omega (arith, c.if-line-gt-LONGEST.false)) (sym c.starts.ensures ∙ c.if-starts.true)
+
+pub overflow_cast-pin : goal.overflow_cast-pin
+overflow_cast-pin c = let few = (field_small 2 0xff _).small _ (sym c.field.ensures ∙ c.in_ok-pin.was) in search rules
 
 pub returns-then-starts : goal.returns-then-starts
-returns-then-starts c = c.sign_with.ensures ∙ ap sign_with c.field.ensures ∙ own_sign _ (omega (arith, c.if-line-gt-LONGEST.false)) (sym c.starts.ensures ∙ c.if-starts.true)
+returns-then-starts c =
+    ap sign_with (sym c.in_ok-pin.was ∙ c.field.ensures)
+    ∙ own_sign _ (omega (arith, c.if-line-gt-LONGEST.false)) (sym c.starts.ensures ∙ c.if-starts.true)
 
 pub slice_bounds-device_of-count : goal.slice_bounds-device_of-count
 slice_bounds-device_of-count c = let l = starts_long device _ (sym c.starts-2.ensures ∙ c.if-starts-2.true) in search rules
