@@ -17,8 +17,9 @@ use Rattle.device_rules.specs.PowerOn.{power_on}
 use Rattle.text.specs.Text.{digit_byte, hex_text}
 use Rattle.text_pieces.specs.Pieces.{newline_at}
 use Rattle.text_answers.specs.Answers.{answer_word, digits_of, columns, unless_refused, answer_text, shown_text, shown_line}
+use Rattle.std.specs.Prelude.{Option, Some, None}
 use Rattle.trace_lines.specs.declared.Line.{Line}
-use Rattle.trace_lines.specs.declared.Line.TheVariants.{Event, Unreadable, Device as MadeLine}
+use Rattle.trace_lines.specs.declared.Line.TheVariants.{Event, Device as MadeLine}
 use Rattle.trace_session.specs.Tracing.Session.{NoDevice, With}
 use Rattle.trace_session.specs.Tracing.{Session, traced}
 use Rattle.trace_logs.specs.Logs.{header}
@@ -86,12 +87,12 @@ shown_one p o = record {
   is = refl;
 }
 
-pub answer_one : (x : Session) (l : Line) → OneLine (traced x l).line
+pub answer_one : (x : Session) (l : Option Line) → OneLine (traced x l).line
 unfolding traced
-answer_one x Unreadable = record { text = answer_word (Refused 7); plain = refused_plain 7; is = refl }
-answer_one x (MadeLine part choice levels) = shown_one (part_of part) (out Nothing (power_on (part_of part) choice levels 0))
-answer_one NoDevice (Event kind arg) = record { text = answer_word (Refused 7); plain = refused_plain 7; is = refl }
-answer_one (With part s) (Event kind arg) = shown_one (part_of part) (stepped (part_of part) s kind arg)
+answer_one x None = record { text = answer_word (Refused 7); plain = refused_plain 7; is = refl }
+answer_one x (Some (MadeLine made)) = shown_one (part_of made.part) (out Nothing (power_on (part_of made.part) made.choice made.levels 0))
+answer_one NoDevice (Some (Event kind arg)) = record { text = answer_word (Refused 7); plain = refused_plain 7; is = refl }
+answer_one (With part s) (Some (Event kind arg)) = shown_one (part_of part) (stepped (part_of part) s kind arg)
 
 pub header_one : OneLine header
 unfolding header newline_at
