@@ -101,11 +101,31 @@ RETARGETED = {
 # What a module says of extensions itself does not matter: those of the target are put in their place.
 EXTENDED_OTHERWISE = ('define noundef i32 @small(i32 noundef %a0) #0 {', 'define noundef zeroext i32 @small(i32 noundef zeroext %a0) #0 {')
 
+# Lines that say something of addresses, and what stands for each where an address has 64 bits and where it has 32.
+READ_BY_HALVES = (
+    ('  %r2 = load { ptr, i64 }, ptr %a1, align 8', """  %r2.low = load ptr, ptr %a1, align 8
+  %r2.place = getelementptr i8, ptr %a1, i64 8
+  %r2.high = load i64, ptr %r2.place, align 8
+  %r2.half = insertvalue { ptr, i64 } poison, ptr %r2.low, 0
+  %r2 = insertvalue { ptr, i64 } %r2.half, i64 %r2.high, 1"""),
+    ('  %r2 = load { i8, ptr }, ptr %a1, align 8', """  %r2.low = load i8, ptr %a1, align 8
+  %r2.place = getelementptr i8, ptr %a1, i64 8
+  %r2.high = load ptr, ptr %r2.place, align 8
+  %r2.half = insertvalue { i8, ptr } poison, i8 %r2.low, 0
+  %r2 = insertvalue { i8, ptr } %r2.half, ptr %r2.high, 1"""),
+)
+ADDRESS = '  %r2 = ptrtoaddr ptr %a1 to i64'
+NARROW = """  %r2.own = ptrtoaddr ptr %a1 to i32
+  %r2 = zext i32 %r2.own to i64"""
+AS_THEY_ARE = (
+    '  %r2 = extractvalue { ptr, i64 } %r6, 1',
+    '  %r2 = call { ptr, i64 } @"shelf::half"(ptr %r0)',
+)
+
 # A line of the module, and one in its place that stops the program: where it would ask for a pointer's width, and whatever else is not known.
 UNKNOWN = [
     ('  %r2 = mul nuw i64 %a0, 4', line) for line in (
         '  %r2 = ptrtoint ptr %a1 to i64',
-        '  %r2 = ptrtoaddr ptr %a1 to i64',
         '  %r2 = inttoptr i64 %a0 to ptr',
         '  %r2 = getelementptr i64, ptr %a1, i64 %a0',
         '  %r2 = getelementptr ptr, ptr %a1, i64 1',
@@ -115,14 +135,16 @@ UNKNOWN = [
         '  %r2 = alloca [2 x ptr], align 8',
         '  %r2 = alloca i8, i64 %a0, align 1',
         '  %r2 = load <2 x i64>, ptr %a1, align 16',
-        '  %r2 = load { ptr, i64 }, ptr %a1, align 8',
-        '  %r2 = load { i64, ptr }, ptr %a1, align 8',
+        '  %r2 = ptrtoaddr ptr %a1 to i32',
+        '  %r2 = load { ptr, ptr, i64 }, ptr %a1, align 8',
+        '  %r2 = load <{ ptr, i64 }>, ptr %a1, align 8',
+        '  %r2 = extractvalue { ptr, i64 } %r6, 2',
+        '  %r2 = insertvalue { ptr, i64 } %r6, i64 %a0, 1',
+        '  store { ptr, i64 } %r6, ptr %a1, align 8',
         '  %r2 = load { i8, i64, i8 }, ptr %a1, align 8',
         '  %r2 = load <{ i8, i64 }>, ptr %a1, align 8',
-        '  %r2 = extractvalue { ptr, i64 } %r6, 1',
         '  %r2 = extractvalue { i8, i64 } %r6, 2',
         '  %r2 = insertvalue { i8, i64 } %r6, i64 %a0, 1',
-        '  %r2 = call { ptr, i64 } @"shelf::half"(ptr %r0)',
         '  store { i8, i64 } %r6, ptr %a1, align 8',
         '  %r2 = load i128, ptr %a1, align 16',
         '  %r2 = load volatile i64, ptr %a1, align 8',
@@ -232,8 +254,8 @@ def spoiled(text, old, new):
     return text.replace(old, new)
 
 
-def want_retargeted(what, module, wanted):
-    status, written, message = retarget(module, HEADER)
+def want_retargeted(what, module, wanted, header=HEADER):
+    status, written, message = retarget(module, header)
     if (status, written, message) != (0, wanted, ''):
         fail('%s: status %d, %r said, written\n%s' % (what, status, message, written))
 
@@ -250,13 +272,22 @@ def main():
         wanted = spoiled(wanted, old, new)
     want_retargeted('a module of known forms', MODULE, wanted)
     want_retargeted('a module with extensions of another processor', spoiled(MODULE, *EXTENDED_OTHERWISE), wanted)
+    line = '  %r2 = mul nuw i64 %a0, 4'
+    narrow = (HEADER.replace('p:64:64', 'p:32:32'), wanted.replace('p:64:64', 'p:32:32'))
+    for header, there in ((HEADER, wanted), narrow):
+        for old, new in READ_BY_HALVES:
+            want_retargeted(old, spoiled(MODULE, line, old), spoiled(there, line, new), header)
+        for same in AS_THEY_ARE:
+            want_retargeted(same, spoiled(MODULE, line, same), spoiled(there, line, same), header)
+    want_retargeted(ADDRESS, spoiled(MODULE, line, ADDRESS), spoiled(wanted, line, ADDRESS))
+    want_retargeted(ADDRESS + ', narrow', spoiled(MODULE, line, ADDRESS), spoiled(narrow[1], line, NARROW), narrow[0])
     for old, new in UNKNOWN:
         want_stop(new, spoiled(MODULE, old, new), HEADER, 'has a form that is not known to mean the same on another processor: ' + new.strip())
     for old, new, said in OTHERWISE:
         want_stop(new or 'without ' + old, MODULE, spoiled(HEADER, old, new), said)
     want_stop('an export of a pair', spoiled(MODULE, *PAIR[:2]), HEADER, PAIR[2])
     want_stop('two data layouts', spoiled(MODULE, 'source_filename = "rattle"', 'target datalayout = "e"'), HEADER, "2 lines begin with 'target datalayout'")
-    print('retarget: %d modules and headers, %d failed' % (len(UNKNOWN) + len(OTHERWISE) + 4, failures))
+    print('retarget: %d modules and headers, %d failed' % (len(UNKNOWN) + len(OTHERWISE) + 4 + 2 * (len(READ_BY_HALVES) + len(AS_THEY_ARE)) + 2, failures))
     return failures != 0
 
 

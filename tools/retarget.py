@@ -2,17 +2,19 @@
 
 MODULE.ll is the module that the kit hands to its compiler for x86-64. HEADER.ll is what that compiler makes of include/ghixramel.h
 for the other processor: its data layout, its triple, and how C there passes each argument and result. These three are put into the
-module; its code stays as it is. That keeps its meaning only in a module whose code says nothing of a pointer's width, so every line
-has to be of a form listed here: addresses are counted in bytes, memory holds integers and pointers, pairs and constant
-tables hold integers. Any other line, and any call that C sees otherwise than the module has it, stops the program."""
+module; its code stays as it is, but for two forms. That keeps its meaning only in a module whose code says nothing of a pointer's width,
+so every line has to be of a form listed here: addresses are counted in bytes, memory holds integers and pointers, constant tables hold
+integers. A pair with an address in it is read half by half, each where x86-64 has it, and an address that is taken for a number is widened.
+Any other line, and any call that C sees otherwise than the module has it, stops the program."""
 
 import re
 import sys
 
 INTEGER = r'i(?:1|8|16|32|64)'
 SCALAR = rf'(?:{INTEGER}|ptr)'
-# Two integers, as functions of the module return them to one another.
-PAIR = rf'\{{ {INTEGER}, {INTEGER} \}}'
+# Two integers or addresses, as functions of the module return them to one another; and two integers, which memory holds alike everywhere.
+PAIR = rf'\{{ {SCALAR}, {SCALAR} \}}'
+INTEGERS_TWO = rf'\{{ {INTEGER}, {INTEGER} \}}'
 NAME = r'[@%](?:[\w.]+|"[^"]+")'
 FUNCTION = r'@(?:[\w.]+|"[^"]+")'
 VALUE = rf'(?:{NAME}|-?\d+|true|false)'
@@ -56,6 +58,7 @@ FORMS = [re.compile(form) for form in (
     rf'{NAME} = (?:add|sub|mul|udiv|urem|and|or|xor|shl|lshr) {FLAGS}{INTEGER} {VALUE}, {VALUE}',
     rf'{NAME} = icmp (?:eq|ne|ult|ule) {INTEGER} {VALUE}, {VALUE}',
     rf'{NAME} = (?:zext|trunc) {FLAGS}{INTEGER} {VALUE} to {INTEGER}',
+    rf'{NAME} = ptrtoaddr ptr {VALUE} to i64',
     rf'{NAME} = extractvalue {PAIR} {NAME}, [01]',
     # the way through a function
     r'[\w.]+:',
@@ -93,10 +96,32 @@ def only_line(text, start):
     return found[0]
 
 
+def read_by_halves(line):
+    """A pair with an address in it: an address is eight bytes there and its second half at the eighth, as the module has stored them."""
+    found = re.fullmatch(rf'({NAME}) = load (\{{ ({SCALAR}), ({SCALAR}) \}}), ptr ({VALUE}), align (\d+)', plain(line))
+    if not found or re.fullmatch(INTEGERS_TWO, found[2]):
+        return line
+    name, pair, low, high, place, align = found.groups()
+    return '\n'.join((
+        f'  {name}.low = load {low}, ptr {place}, align {align}',
+        f'  {name}.place = getelementptr i8, ptr {place}, i64 8',
+        f'  {name}.high = load {high}, ptr {name}.place, align {align}',
+        f'  {name}.half = insertvalue {pair} poison, {low} {name}.low, 0',
+        f'  {name} = insertvalue {pair} {name}.half, {high} {name}.high, 1'))
+
+
+def address_of(line, bits):
+    """An address as a number of 64 bits, on a processor whose addresses have so many."""
+    found = re.fullmatch(rf'({NAME}) = ptrtoaddr ptr ({VALUE}) to i64', plain(line))
+    if not found or bits == 64:
+        return line
+    return f'  {found[1]}.own = ptrtoaddr ptr {found[2]} to i{bits}\n  {found[1]} = zext i{bits} {found[1]}.own to i64'
+
+
 def check_pairs(module, header):
     """The second number of a pair stands in memory at the same place: one of 64 bits at a multiple of eight bytes."""
     for text in (module, header):
-        if re.search(PAIR, module) and not re.search(r'-i64:64\b', only_line(text, 'target datalayout')):
+        if re.search(INTEGERS_TWO, module) and not re.search(r'-i64:64\b', only_line(text, 'target datalayout')):
             stop('numbers of 64 bits are not at multiples of eight bytes')
 
 
@@ -142,6 +167,9 @@ def retarget(module, header):
         if [kind for kind, _ in ours] != [kind for kind, _ in wanted[name]]:
             stop('%s: the module has it as %s, C as %s' % (name, *(' '.join(k for k, _ in s) for s in (ours, wanted[name]))))
         module = module.replace(export[0] + '\n', as_declared(export, wanted[name]) + '\n')
+    addresses = re.search(r'-p:(\d+):', only_line(header, 'target datalayout'))
+    bits = int(addresses[1]) if addresses else 64
+    module = '\n'.join(address_of(read_by_halves(line), bits) for line in module.split('\n'))
     for start in ('target datalayout', 'target triple'):
         module = module.replace(only_line(module, start), only_line(header, start))
     return OF_X86_64.sub('', module)
