@@ -50,11 +50,12 @@ pub fn run(
 {
     for i in 0..asked {
         let answer = take(words, marks, events, i);
-        if let Answer::Refused(refusal) = answer {
-            *done = [i as u64];
-            return u32::from(refusal);
-        }
-        words_events::put(answers, i, answer);
+        let Answer::Refused(refusal) = answer else {
+            words_events::put(answers, i, answer);
+            continue;
+        };
+        *done = [i as u64];
+        return u32::from(refusal);
     }
     *done = [asked as u64];
     0

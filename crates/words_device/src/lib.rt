@@ -1,7 +1,7 @@
 // The device on words that are lent: made; stepped with every refusal, whatever they hold, and where they are known to be packed without the test of refusal 3.
 #![tactic(auto)]
 
-ghost use Rattle.std.specs.Prelude.{◌≡◌, ◌^◌, ◌<◌, get_or};
+ghost use Rattle.std.specs.Prelude.{◌≡◌, ℕ, ◌-◌, ◌^◌, ◌<◌, get_or};
 ghost use Rattle.map.specs.Map.{part_of};
 ghost use Rattle.device_rules.specs.PowerOn.{power_on};
 ghost use Rattle.device_rules.specs.Refusals.{stepped};
@@ -9,7 +9,7 @@ ghost use Rattle.words_rows.specs.Rows.{row_at};
 ghost use Rattle.words_state.specs.Packed.{state_in, Packed, Leaves, Steps};
 ghost use Rattle.words_device.specs.Named.{Named, Obeys};
 
-use device_rules::{Answer, BAD_IMAGE};
+use device_rules::{Answer, BAD_IMAGE, BYTE, START};
 use pins::Sets;
 use words::{PART, POINTER};
 
@@ -40,12 +40,27 @@ fn event_at(words: &mut [u64; 28], part: u64, row: u32, kind: u32, arg: u64) -> 
     words_bus::event(words, map::pins_of(part), row, kind, arg)
 }
 
-// One event on words that are known to be packed: nothing of refusal 3 is left to test.
+// START or STOP, which ask for no row.
+fn condition(words: &mut [u64; 28], pins: u64, kind: u32) -> Answer
+    requires { Packed (get_or words.old 27 0) words.old × (pins ≡ 2 ^ (part_of (get_or words.old 27 0)).width - 1) × (kind < 2) }
+    ensures { (c arg : ℕ) → Packed c words.old → pins ≡ 2 ^ (part_of c).width - 1
+        → Leaves c words.new result (stepped (part_of c) (state_in (part_of c) words.old) kind arg) }
+{
+    if kind == START {
+        return words_conditions::start(words);
+    }
+    words_conditions::stop(words, pins)
+}
+
+// One event on words that are known to be packed: nothing of refusal 3 is left to test. START and STOP, three of ten events of a host's traffic, ask for no row.
 pub fn event(words: &mut [u64; 28], kind: u32, arg: u64) -> Answer
     requires { Named words.old }
     ensures { Obeys words.old words.new kind arg result }
 {
     let part = words[PART];
+    if kind < BYTE {
+        return condition(words, map::pins_of(part), kind);
+    }
     let row = words_tables::row_of(part, words[POINTER]);
     event_at(words, part, row, kind, arg)
 }

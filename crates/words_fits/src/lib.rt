@@ -1,7 +1,7 @@
 // Whether words are the packing of a well-formed image, as refusal 3 asks.
 #![tactic(auto)]
 
-ghost use Rattle.std.specs.Prelude.{◌≡◌, ◌<◌, true};
+ghost use Rattle.std.specs.Prelude.{◌≡◌, ◌<◌, true, Some, None};
 ghost use Rattle.map.specs.Map.{part_of};
 ghost use Rattle.words.specs.Words.{Fit};
 ghost use Rattle.words_state.specs.Packed.{Packed, Judged};
@@ -23,30 +23,28 @@ fn spare_in<const PART: u64>(words: &[u64; 28]) -> u64
     words_spare::spare(words, PINS34, PORT_KINDS34, DEBOUNCED34, DEBOUNCE_COUNT34)
 }
 
-// The row of the register at the pointer, if the words are the packing of a well-formed image of the part.
-fn judged_as<const PART: u64>(words: &[u64; 28]) -> Option<u32>
+// The row of the register at the pointer, if the words are the packing of a well-formed image of the part; else 0, which is no register's row. An Option would be two numbers to test behind this call, in every step.
+fn judged_as<const PART: u64>(words: &[u64; 28]) -> u32
     requires { PART < 2 }
-    ensures { Judged PART words.now result }
+    ensures { (result ≡ 0 → Judged PART words.now None) × ((result ≡ 0 → ⊥) → Judged PART words.now (Some result)) }
 {
     if !words_bounds::bounded(words, PART, spare_in::<PART>(words)) {
-        return None;
+        return 0;
     }
-    let row = words_tables::row_of(PART, words[POINTER]);
-    if row == 0 {
-        return None;
-    }
-    Some(row)
+    words_tables::row_of(PART, words[POINTER])
 }
 
-// The same of the part of that number: there is no third.
+// The same of the part of that number: there is no third. Put into its callers: C's calls know their part, and a call of this would ask for it in every step.
+#[inline(always)]
 pub fn judged(words: &[u64; 28], part: u64) -> Option<u32>
     ensures { Judged part words.now result }
 {
-    match part {
+    let row = match part {
         0 => judged_as::<0>(words),
         1 => judged_as::<1>(words),
-        _ => None,
-    }
+        _ => 0,
+    };
+    (row != 0).then_some(row)
 }
 
 // Whether the words are the packing of a well-formed image of the part.

@@ -24,11 +24,12 @@ pub fn run(
 {
     for i in 0..asked {
         let answer = words_taking::take(words, events, i);
-        if let Answer::Refused(refusal) = answer {
-            *done = [i as u64];
-            return u32::from(refusal);
-        }
-        words_events::put(answers, i, answer);
+        let Answer::Refused(refusal) = answer else {
+            words_events::put(answers, i, answer);
+            continue;
+        };
+        *done = [i as u64];
+        return u32::from(refusal);
     }
     *done = [asked as u64];
     0

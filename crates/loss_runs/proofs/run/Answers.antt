@@ -32,8 +32,8 @@ loop-i-preserved c =
           c.loop-i-test.true left (c.take-answer.ensures.1 _ c.loop-i.invariant.0.packed c.loop-i.invariant.1.fits) (search rules),
     )
 
-pub returns-in-Refused : goal.returns-in-Refused
-returns-in-Refused c =
+pub returns-in-loop-i : goal.returns-in-loop-i
+returns-in-loop-i c =
     let a = c.args in
     let refused = c.in-Refused.is in
     let left = c.take-answer.ensures.0 _ c.loop-i.invariant.0.packed in (

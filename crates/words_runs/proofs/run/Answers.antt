@@ -13,8 +13,8 @@ take-answer-requires c =
     let k = c.loop-i.invariant.packed in
     (named _ _ k, omega arith)
 
-pub returns-in-Refused : goal.returns-in-Refused
-returns-in-Refused c =
+pub returns-in-loop-i : goal.returns-in-loop-i
+returns-in-loop-i c =
     let a = c.args in
     λ p k. rw (c.from.ensures, ← k.part_is)
     (stop _ a.words.now a.events.now a.asked a.answers.now c.requires.2 c.loop-i.words c.loop-i.answers c.loop-i.i c.loop-i.invariant
