@@ -5,7 +5,7 @@ use mathlib.Core.List.{List, [], ◌∷◌, ◌++◌}
 use Prim.Native.Nat.{ℕ, ◌+◌, ◌*◌, ◌%◌, ◌<◌}
 use native.Mathlib.Omega.{arith}
 use borrow.Author.Tests.{eqb-true, ltb-true}
-use lib.Dec.{eqb}
+use lib.Dec.{eqb, ltb}
 use Rattle.bits.proofs.Decide.{either_arm, clash}
 use Rattle.text.specs.Text.{digit_of}
 use Rattle.plan_fields.specs.declared.Field.{Field}
@@ -43,7 +43,7 @@ module _ (r : Reading) (b : ℕ) where
 
 -- two digits of a field
 module _ (f : Field) (whole : f.high ≡ None) where
-  first_waits : (d : ℕ) → digit_taken f d ≡ field f.bytes.items (Some d)
+  first_waits : (d : ℕ) → digit_taken f d ≡ field f.bytes f.count (Some d)
   unfolding digit_taken
   first_waits d = rw whole
 
@@ -55,7 +55,7 @@ module _ (f : Field) (whole : f.high ≡ None) where
 
 byte_whole : (f : Field) (v : ℕ) → (byte_taken f v).high ≡ None
 unfolding byte_taken
-byte_whole f v = refl
+byte_whole f v = either_arm (λ (x : Field). x.high ≡ None) (ltb f.count 17) refl refl
 
 -- ---- a line that is spoiled stays so
 lost_digit : (r : Reading) (d : ℕ) → r.place ≡ Nowhere → with_digit r d ≡ r
@@ -222,11 +222,11 @@ module _ (start : Field) (whole : start.high ≡ None) (a b : ℕ) (line : List 
   start_half : is_digit a ≡ true → eqb b 0x09 ≡ true → Read start two (taken_all (start_of start) two)
   unfolding taken_all before_tab in_pairs
   start_half p t =
-      let on : taken (taken (start_of start) a) b ≡ reading (field start.bytes.items (Some (digit_of a))) nothing Goal =
+      let on : taken (taken (start_of start) a) b ≡ reading (field start.bytes start.count (Some (digit_of a))) nothing Goal =
       ap (λ (r : Reading). taken r b) (digit_on start_of start_goes start a p ∙ ap start_of (first_waits start whole (digit_of a)))
-      ∙ tab_taken (start_of (field start.bytes.items (Some (digit_of a)))) b t in
+      ∙ tab_taken (start_of (field start.bytes start.count (Some (digit_of a)))) b t in
       not_read start two (taken_all (start_of start) two) (unread two (rw (digit_no_tab a p, t)))
-      (ap (λ (r : Reading). whole_in (taken_all r line)) on ∙ (goal_ended (field start.bytes.items (Some (digit_of a))) line nothing refl).whole)
+      (ap (λ (r : Reading). whole_in (taken_all r line)) on ∙ (goal_ended (field start.bytes start.count (Some (digit_of a))) line nothing refl).whole)
 
   -- a byte of the first two that is no digit and no tab
   start_first : eqb a 0x09 ≡ false → is_digit a ≡ false → Read start two (taken_all (start_of start) two)

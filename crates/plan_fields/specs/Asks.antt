@@ -1,21 +1,25 @@
 -- How a line of any length is taken byte by byte, in bounded memory; `Lines` has what it says.
-use Rattle.std.specs.Prelude.{◌≡◌, Bool, true, false, cond, ◌&&◌, List, [], ◌∷◌, ◌++◌, ℕ, ◌+◌, ◌*◌, ◌%◌, eqb, ltb, length, Option, Some, None, is_none}
+use Rattle.std.specs.Prelude.{◌≡◌, Bool, true, false, cond, ◌&&◌, List, [], ◌∷◌, ℕ, ◌+◌, ◌*◌, ◌%◌, eqb, ltb, set, take, replicate, Option, Some, None, is_none}
 use Rattle.text.specs.Text.{digit_of}
 use Rattle.plan_fields.specs.declared.Field.{Field}
 use Rattle.plan_fields.specs.declared.Place.{Place}
 use Rattle.plan_fields.specs.declared.Place.TheVariants.{Start, Goal, Nowhere}
 use Rattle.plan_fields.specs.declared.Reading.{Reading}
 
-abbrev pub field : List ℕ → (high : Option ℕ) → Field
-field bytes high = record { bytes = record { items = bytes }; high = high }
+abbrev pub field : List ℕ → (count : ℕ) → (high : Option ℕ) → Field
+field bytes count high = record { bytes = bytes; count = count; high = high }
+
+-- The bytes that are kept of a field.
+abbrev pub kept_in : Field → List ℕ
+kept_in f = take f.count f.bytes
 
 -- A pair of digits is whole: the first seventeen bytes are kept, one more than the longest setting has.
 unfoldable pub byte_taken : Field → (v : ℕ) → Field
-byte_taken f v = field (cond (ltb (length f.bytes.items) 17) (f.bytes.items ++ v ∷ []) f.bytes.items) None
+byte_taken f v = cond (ltb f.count 17) (field (set f.bytes f.count v) (f.count + 1) None) (field f.bytes f.count None)
 
 -- A digit: the first of a pair waits, the second makes it whole.
 abbrev pub digit_behind : Option ℕ → Field → (d : ℕ) → Field
-digit_behind None f d = field f.bytes.items (Some d)
+digit_behind None f d = field f.bytes f.count (Some d)
 digit_behind (Some high) f d = byte_taken f (high % 16 * 16 + d)
 
 unfoldable pub digit_taken : Field → (d : ℕ) → Field
@@ -26,7 +30,7 @@ reading start goal place = record { start = start; goal = goal; place = place }
 
 -- Before the first byte of a line.
 abbrev pub nothing : Field
-nothing = field [] None
+nothing = field (replicate 17 0) 0 None
 
 abbrev pub begun : Reading
 begun = reading nothing nothing Start

@@ -2,17 +2,17 @@
 #![tactic(auto)]
 
 ghost use Rattle.std.specs.Prelude.{◌≡◌, List, [], ◌++◌, ℕ, ◌<◌};
-ghost use Rattle.plan_fields.specs.Asks.{nothing, byte_taken, digit_taken, past_tab, with_digit, taken, whole_in, Holds, Said};
-
-use arrayvec::ArrayVec;
+ghost use Rattle.plan_fields.specs.Asks.{nothing, byte_taken, digit_taken, kept_in, past_tab, with_digit, taken, whole_in, Holds, Said};
 
 // How many bytes of a field are kept: one more than the longest setting has, so that a field that is longer is seen to be.
 pub const KEPT: usize = 17;
 
-// One field of the line: its first bytes, and the digit that waits for the second of its pair.
-#[derive(Drop)]
+// One field of the line: its first bytes, how many are kept, and the digit that waits for the second of its pair.
+// An array and a count, since a reading can be copied and a vector cannot.
+#[derive(Clone, Copy)]
 pub struct Field {
-    pub bytes: ArrayVec<u8, KEPT>,
+    pub bytes: [u8; KEPT],
+    pub count: usize,
     pub high: Option<u8>,
 }
 
@@ -21,7 +21,8 @@ impl Field {
         ensures { result ≡ nothing }
     {
         Field {
-            bytes: ArrayVec::new(),
+            bytes: [0; KEPT],
+            count: 0,
             high: None,
         }
     }
@@ -32,8 +33,9 @@ impl Field {
         ensures { self.new ≡ byte_taken self.old v }
     {
         self.high = None;
-        if !self.bytes.is_full() {
-            self.bytes.push(v);
+        if self.count < KEPT {
+            self.bytes[self.count] = v;
+            self.count += 1;
         }
     }
 
@@ -46,6 +48,13 @@ impl Field {
             None => self.high = Some(d),
             Some(high) => self.take_byte(high % 16 * 16 + d),
         }
+    }
+
+    // Its bytes, as far as they are kept.
+    pub fn kept(&self) -> &[u8]
+        ensures { result.now ≡ kept_in self.now }
+    {
+        &self.bytes[..self.count.min(KEPT)]
     }
 }
 
@@ -68,7 +77,7 @@ impl Place {
     }
 }
 
-#[derive(Drop)]
+#[derive(Clone, Copy)]
 pub struct Reading {
     pub start: Field,
     pub goal: Field,

@@ -22,7 +22,7 @@ use Rattle.planner_promise.specs.Promise.{bytes_of, count_of}
 use Rattle.planner_promise.specs.Answer.{Answer, refuse, give, answer_of, Answers}
 use Rattle.planner_promise.specs.declared.Refusal.TheVariants.{NoQuietWay, BadSetting, BufferSmall}
 use Rattle.plan_fields.specs.declared.Reading.{Reading}
-use Rattle.plan_fields.specs.Asks.{whole_in, Holds}
+use Rattle.plan_fields.specs.Asks.{kept_in, whole_in, Holds}
 use Rattle.plan_fields.specs.Lines.{readable, start_in, goal_in}
 use Rattle.plan_fields.proofs.Heard.{whole_heard, start_heard, goal_heard}
 use Rattle.plan_refusals.specs.declared.LineRefusal.{LineRefusal}
@@ -120,7 +120,7 @@ module _ (p : Part) (few : length (registers_of p) ≤ 16) where
     unfolding answer_to
     line_unread h = let t : readable line ≡ false = sym (whole_heard line r held) ∙ h in rw t
 
-    pub line_asked : whole_in r ≡ true → answer_of p r.start.bytes.items r.goal.bytes.items (room_for p) ≡ answer_to p line
+    pub line_asked : whole_in r ≡ true → answer_of p (kept_in r.start) (kept_in r.goal) (room_for p) ≡ answer_to p line
     unfolding answer_to
     line_asked h =
         let t : readable line ≡ true = sym (whole_heard line r held) ∙ h in

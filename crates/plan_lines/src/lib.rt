@@ -4,6 +4,7 @@
 ghost use Rattle.std.specs.Prelude.{◌≡◌, List, ℕ, ◌+◌, ◌*◌, ◌≤◌, length};
 ghost use Rattle.text.specs.Text.{Wrote};
 ghost use Rattle.text_answers.specs.Answers.{refused_line};
+ghost use Rattle.map.specs.Map.{part_of};
 ghost use Rattle.map.specs.Chips.{part_at};
 ghost use Rattle.planner_promise.specs.Answer.{Answers};
 ghost use Rattle.planner_promise.specs.Promise.{count_of};
@@ -64,29 +65,34 @@ pub struct Told {
     pub refusal: Option<LineRefusal>,
 }
 
+// The part of that number: every one but 0 is the sister's.
+pub fn chip_of(part: u8) -> Chip
+    ensures { part_at result ≡ part_of part }
+{
+    match part {
+        0 => Chip::Pcal6524,
+        _ => Chip::Pcal6534,
+    }
+}
+
 // The part's planner is asked, where the line can be read; either part's plan fits.
-fn planned(chip: Chip, r: &Reading, pairs: &mut [u8; 52]) -> Result<usize, LineRefusal>
-    ensures { (line : List ℕ) → Holds r.now line → Answers (refused_as result) (count_of result) pairs.old pairs.new (answer_to (part_at chip) line) }
+fn planned(part: u8, r: &Reading, pairs: &mut [u8; 52]) -> Result<usize, LineRefusal>
+    ensures { (line : List ℕ) → Holds r.now line → Answers (refused_as result) (count_of result) pairs.old pairs.new (answer_to (part_of part) line) }
 {
     if !r.is_whole() {
         return Err(LineRefusal::Unreadable);
     }
-    let writes = planner::plan(
-        chip,
-        r.start.bytes.as_slice(),
-        r.goal.bytes.as_slice(),
-        pairs,
-    )?;
+    let writes = planner::plan(chip_of(part), r.start.kept(), r.goal.kept(), pairs)?;
     Ok(writes)
 }
 
 // The whole line's answer, written from at on.
-pub fn answer(chip: Chip, r: &Reading, out: &mut [u8], at: usize) -> Told
+pub fn answer(part: u8, r: &Reading, out: &mut [u8], at: usize) -> Told
     requires { Said r.now × (at + 135 ≤ length out.old) }
-    ensures { ((line : List ℕ) → Holds r.now line → Tells (part_at chip) line out.old at result.end (number_told result.refusal) out.new) × (result.end ≤ at + 135) }
+    ensures { ((line : List ℕ) → Holds r.now line → Tells (part_of part) line out.old at result.end (number_told result.refusal) out.new) × (result.end ≤ at + 135) }
 {
     let mut pairs = [0u8; 52];
-    match planned(chip, r, &mut pairs) {
+    match planned(part, r, &mut pairs) {
         Ok(writes) => Told {
             end: put_plan(out, at, &pairs[..2 * writes]),
             refusal: None,

@@ -76,7 +76,7 @@ fn explain_pin(rt: &impl Eprint, chip: Chip, pin: u8) {
 }
 
 fn explain_pins(rt: &impl Eprint, chip: Chip, r: &Reading) {
-    let stuck = planner::stuck_pins(chip, r.start.bytes.as_slice(), r.goal.bytes.as_slice());
+    let stuck = planner::stuck_pins(chip, r.start.kept(), r.goal.kept());
     for pin in 0..chip.pins() {
         if (stuck >> pin) & 1 == 1 {
             explain_pin(rt, chip, pin);
@@ -99,15 +99,15 @@ fn explain_refusal(rt: &impl Eprint, chip: Chip, refusal: LineRefusal, r: &Readi
 }
 
 // The answer to one whole line, and for a person what is wrong with it.
-fn answer(rt: &(impl Print + Eprint), chip: Chip, r: &Reading) -> io::Result<()>
+fn answer(rt: &(impl Print + Eprint), part: u8, r: &Reading) -> io::Result<()>
     requires { Said r.now }
 {
     let mut out = [0u8; ROOM];
-    let told = plan_lines::answer(chip, r, &mut out, 0);
+    let told = plan_lines::answer(part, r, &mut out, 0);
     let end = told.end;
     rt.write_all(&out[..end])?;
     if let Some(refusal) = told.refusal {
-        explain_refusal(rt, chip, refusal, r);
+        explain_refusal(rt, plan_lines::chip_of(part), refusal, r);
     }
     Ok(())
 }
@@ -126,9 +126,9 @@ fn line_of_arguments(rt: &impl Env) -> Result<Reading, FillError>
     Ok(reading)
 }
 
-fn from_arguments(rt: &(impl Env + Print + Eprint), chip: Chip) -> io::Result<()> {
+fn from_arguments(rt: &(impl Env + Print + Eprint), part: u8) -> io::Result<()> {
     match line_of_arguments(rt) {
-        Ok(reading) => answer(rt, chip, &reading),
+        Ok(reading) => answer(rt, part, &reading),
         Err(_) => say_refusal(rt, LineRefusal::Unreadable),
     }
 }
@@ -142,12 +142,7 @@ struct Lines {
 
 impl Lines {
     // Every line that ends in this piece is answered; the rest of the piece begins the next line.
-    fn answer_piece(
-        &mut self,
-        rt: &(impl Print + Eprint),
-        chip: Chip,
-        piece: &[u8],
-    ) -> io::Result<()>
+    fn answer_piece(&mut self, rt: &(impl Print + Eprint), part: u8, piece: &[u8]) -> io::Result<()>
         requires { Said self.old.reading }
         ensures { Said self.new.reading }
     {
@@ -159,7 +154,7 @@ impl Lines {
             self.reading.grow(&rest[..len]);
             self.any = taken <= len;
             if !self.any {
-                answer(rt, chip, &self.reading)?;
+                answer(rt, part, &self.reading)?;
                 self.reading = Reading::begin();
             }
             rest = &rest[taken..];
@@ -168,7 +163,7 @@ impl Lines {
     }
 }
 
-fn from_input(rt: &(impl Input + Print + Eprint), chip: Chip) -> io::Result<()> {
+fn from_input(rt: &(impl Input + Print + Eprint), part: u8) -> io::Result<()> {
     let mut piece = [0u8; PIECE];
     let mut lines = Lines {
         reading: Reading::begin(),
@@ -181,10 +176,10 @@ fn from_input(rt: &(impl Input + Print + Eprint), chip: Chip) -> io::Result<()> 
         if n == 0 {
             break;
         }
-        lines.answer_piece(rt, chip, &piece[..n])?;
+        lines.answer_piece(rt, part, &piece[..n])?;
     }
     if lines.any {
-        answer(rt, chip, &lines.reading)?;
+        answer(rt, part, &lines.reading)?;
     }
     Ok(())
 }
@@ -196,14 +191,15 @@ fn is_given(rt: &impl Env, argument: usize) -> bool {
 }
 
 // Two arguments, or the lines of standard input.
-pub fn run(rt: &(impl Env + Input + Print + Eprint), chip: Chip) -> io::Result<()> {
+pub fn run(rt: &(impl Env + Input + Print + Eprint), part: u8) -> io::Result<()> {
     if is_given(rt, 0) && !is_given(rt, 1) {
-        return from_input(rt, chip);
+        return from_input(rt, part);
     }
     if is_given(rt, 2) && !is_given(rt, 3) {
-        return from_arguments(rt, chip);
+        return from_arguments(rt, part);
     }
     say_refusal(rt, LineRefusal::Unreadable)?;
+    let chip = plan_lines::chip_of(part);
     explain(rt, chip, usage(chip));
     Ok(())
 }

@@ -30,7 +30,7 @@ use Rattle.planner_promise.specs.Promise.{bytes_of}
 use Rattle.planner_promise.specs.Answer.{Planted}
 use Rattle.planner_bytes.specs.Bytes.{pin_in}
 use Rattle.planner_bytes.specs.declared.PinSets.{PinSets}
-use Rattle.planner_pairs.specs.Pairs.{pair_of}
+use Rattle.planner_pairs.specs.Pairs.{pair_of, Emitted}
 use Rattle.planner_settings.specs.Loaded.{Loaded}
 use Rattle.planner.specs.Halfway.{Halfway}
 use Rattle.planner.specs.Pairwise.{opens_to, closes_to}
@@ -133,19 +133,18 @@ module _ (p : Part) (ok : Plannable p) (start goal : Settings) (ds : Sound (shap
         ∙ sym (then (closing k ++ a) b (c ++ [])) ∙ sym (then (closing k) a (b ++ (c ++ [])))
         ∙ ap bytes_of (sym (close_found (shape_of p) ok.regular start goal ds dg k hk))
 
-    pub planted : (items : List ℕ) (len : ℕ) (before after : List ℕ) → items ≡ closes_to p m g turned n → len ≡ length items → after ≡ items ++ drop len before
-        → Planted p start goal (len / 2) before after
+    pub planted : (r : ℕ) (before after : List ℕ) → Emitted (closes_to p m g turned n) r before after → Planted p start goal r before after
     unfolding plan_of
-    planted items len before after e whole laid = record {
-      count = omega (arith, whole, two);
-      bytes = laid ∙ ap₂ (λ (l : List ℕ) (k : ℕ). l ++ drop k before) all (whole ∙ two);
+    planted r before after e = record {
+      count = count;
+      bytes = e.laid ∙ ap₂ (λ (l : List ℕ) (k : ℕ). l ++ drop (2 * k) before) all count;
     }
       where
-        all : items ≡ bytes_of (plan_of (shape_of p) start goal)
-        all = e ∙ closed n (omega arith)
+        all : closes_to p m g turned n ≡ bytes_of (plan_of (shape_of p) start goal)
+        all = closed n (omega arith)
 
-        two : length items ≡ 2 * length (plan_of (shape_of p) start goal)
-        two = ap length all ∙ bytes_length (plan_of (shape_of p) start goal)
+        count : r ≡ length (plan_of (shape_of p) start goal)
+        count = omega (arith, e.pairs, ap length all, bytes_length (plan_of (shape_of p) start goal))
 
 -- ---- the stuck pins
 -- a pin with an output of 0 is not stuck

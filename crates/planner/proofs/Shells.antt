@@ -2,11 +2,11 @@
 use mathlib.Core.Path.{◌≡◌, refl, sym, ap, subst, ◌∙◌}
 use mathlib.Core.Bool.{Bool, true, false, cond, ◌&&◌}
 use mathlib.Core.List.{List, ◌++◌}
-use Prim.Native.Nat.{ℕ, ◌*◌, ◌/◌, ◌^◌, ◌≤◌, ◌<◌}
+use Prim.Native.Nat.{ℕ, ◌*◌, ◌^◌, ◌≤◌, ◌<◌}
 use native.Mathlib.Omega.{arith}
 use borrow.Author.Tests.{ltb-true, ltb-false}
 use lib.Dec.{ltb}
-use lib.ListN.{get_or, length, drop}
+use lib.ListN.{get_or, length}
 use Rattle.std.proofs.Common.{Result, Ok, Err}
 use Rattle.bits.specs.Bits.{bit}
 use Rattle.map.specs.Map.{Part, first_of}
@@ -23,7 +23,7 @@ use Rattle.planner_promise.proofs.Answering.{sound, bad_start, bad_goal, no_room
 use Rattle.planner_promise.proofs.Promising.{promised}
 use Rattle.planner_bytes.specs.Bytes.{pin_in}
 use Rattle.planner_bytes.specs.declared.PinSets.{PinSets}
-use Rattle.planner_pairs.specs.Pairs.{pair_of}
+use Rattle.planner_pairs.specs.Pairs.{pair_of, Emitted}
 use Rattle.planner_settings.specs.Loaded.{Loaded, early}
 use Rattle.planner.specs.Halfway.{Halfway}
 use Rattle.planner.specs.Pairwise.{opens_to, closes_to}
@@ -47,21 +47,21 @@ module _ (p : Part) (ok : Plannable p) (s g before : List ℕ) where
   some_number BadSetting z = omega (arith, z)
   some_number BufferSmall z = omega (arith, z)
 
-  module _ {A : Type 0} {r : Result A Refusal} (e : refusal_of r ≡ early p s g (length before) (room_for p)) where
+  module _ {A : Type 0} {r : Result A Refusal} {most : ℕ} (room : most ≡ room_for p) (told : refusal_of r ≡ early p s g (length before) most) where
     pub early_refused : (d : Refusal) → r ≡ Err d → Kept (number_of d) 0 before
-    early_refused d q = go (formed p s) (formed p g) (ltb (length before) (room_for p)) refl refl refl (sym (ap refusal_of q) ∙ e)
+    early_refused d q = go (formed p s) (formed p g) (ltb (length before) (room_for p)) refl refl refl (sym (ap refusal_of q) ∙ told ∙ ap (early p s g (length before)) room)
       where
-        told : {n : ℕ} → number_of d ≡ n → Answers n 0 before before (answer_of p s g (length before)) → Kept (number_of d) 0 before
-        told {n} q x = subst (λ (m : ℕ). Kept m 0 before) (sym q) (kept n 0 before x)
+        under : {n : ℕ} → number_of d ≡ n → Answers n 0 before before (answer_of p s g (length before)) → Kept (number_of d) 0 before
+        under {n} q x = subst (λ (m : ℕ). Kept m 0 before) (sym q) (kept n 0 before x)
 
         go : (a b c : Bool) → formed p s ≡ a → formed p g ≡ b → ltb (length before) (room_for p) ≡ c → number_of d ≡ tried a b c → Kept (number_of d) 0 before
-        go false b c ha hb hc q = told q (bad_start p s g before ha)
-        go true false c ha hb hc q = told q (bad_goal p s g before ha hb)
-        go true true true ha hb hc q = told q (no_room p s g before ha hb (ltb-true (length before) (room_for p) hc))
+        go false b c ha hb hc q = under q (bad_start p s g before ha)
+        go true false c ha hb hc q = under q (bad_goal p s g before ha hb)
+        go true true true ha hb hc q = under q (no_room p s g before ha hb (ltb-true (length before) (room_for p) hc))
         go true true false ha hb hc q = absurd (some_number d q)
 
     pub early_passed : (x : A) → r ≡ Ok x → (formed p s ≡ true) × (formed p g ≡ true) × (room_for p ≤ length before)
-    early_passed x q = go (formed p s) (formed p g) (ltb (length before) (room_for p)) refl refl refl (sym (ap refusal_of q) ∙ e)
+    early_passed x q = go (formed p s) (formed p g) (ltb (length before) (room_for p)) refl refl refl (sym (ap refusal_of q) ∙ told ∙ ap (early p s g (length before)) room)
       where
         go : (a b c : Bool) → formed p s ≡ a → formed p g ≡ b → ltb (length before) (room_for p) ≡ c → 0 ≡ tried a b c
             → (formed p s ≡ true) × (formed p g ≡ true) × (room_for p ≤ length before)
@@ -77,13 +77,13 @@ module _ (p : Part) (ok : Plannable p) (s g before : List ℕ) where
         kept 4 0 before
         (no_way p s g before f.0 f.1 f.2 (stuck_some p ok s g (sound p s f.0) (sound p g f.1) x y lx ly r fits h z))
 
-    pub laid_out : r ≡ 0 → (m : PinSets) → Halfway x y m → (items : List ℕ) (len : ℕ) (rest : List ℕ)
-        → items ≡ closes_to p m y (opens_to p x m p.ports ++ pair_of (first_of p PortKind) (get_or s (2 * p.ports) 0) (get_or g (2 * p.ports) 0)) p.ports
-        → len ≡ length items → rest ≡ items ++ drop len before → Kept 0 (len / 2) rest
-    laid_out z m q items len rest e whole laid =
-        kept 0 (len / 2) rest
-        (planned p s g before f.0 f.1 f.2 (stuck_none p ok s g (sound p s f.0) (sound p g f.1) x y lx ly r fits h z) (len / 2) rest
-        (planted p ok s g (sound p s f.0) (sound p g f.1) x y m lx ly q items len before rest e whole laid))
+    pub laid_out : r ≡ 0 → (m : PinSets) → Halfway x y m → (n : ℕ) (rest : List ℕ)
+        → Emitted (closes_to p m y (opens_to p x m p.ports ++ pair_of (first_of p PortKind) (get_or s (2 * p.ports) 0) (get_or g (2 * p.ports) 0)) p.ports) n before rest
+        → Kept 0 n rest
+    laid_out z m q n rest d =
+        kept 0 n rest
+        (planned p s g before f.0 f.1 f.2 (stuck_none p ok s g (sound p s f.0) (sound p g f.1) x y lx ly r fits h z) n rest
+        (planted p ok s g (sound p s f.0) (sound p g f.1) x y m lx ly q n before rest d))
 
 -- ---- the stuck pins alone
 pub where_formed : (p : Part) (s g : Settings) {r : ℕ} (t : ℕ) → formed p s ≡ true → formed p g ≡ true → r ≡ t → r ≡ cond (formed p s && formed p g) t 0

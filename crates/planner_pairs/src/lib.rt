@@ -1,23 +1,19 @@
-// A plan as it is made: pairs of bytes, a register and what is written to it, where that changes what is there.
+// Pairs of bytes at the front of a buffer: a register and what is written to it, where that changes what is there.
 #![tactic(auto)]
 
-ghost use Rattle.std.specs.Prelude.{◌≡◌, ◌++◌, ◌+◌, ◌≤◌, length};
-ghost use Rattle.planner_pairs.specs.Pairs.{pair_of};
+ghost use Rattle.std.specs.Prelude.{List, ◌++◌, ℕ, ◌+◌, ◌*◌, ◌≤◌, length};
+ghost use Rattle.planner_pairs.specs.Pairs.{pair_of, Emitted};
 
-use arrayvec::ArrayVec;
-
-// Two bytes for each of the most writes that a plan of either part has.
-pub const ROOM: usize = 52;
-
-// Lays the pair of a register behind the others, unless it holds the value already.
-pub fn put(pairs: &mut ArrayVec<u8, ROOM>, register: u8, was: u8, to: u8)
-    requires { length pairs.old.items + 2 ≤ 52 }
-    ensures { (pairs.new.items ≡ pairs.old.items ++ pair_of register was to)
-        × (length pairs.new.items ≤ length pairs.old.items + 2) }
+// Lays the pair of a register behind n others, unless it holds the value already; how many there are then.
+pub fn put(buf: &mut [u8], n: usize, register: u8, was: u8, to: u8) -> usize
+    requires { 2 * n + 2 ≤ length buf.old }
+    ensures { ((out before : List ℕ) → Emitted out n before buf.old → Emitted (out ++ pair_of register was to) result before buf.new)
+        × (result ≤ n + 1) }
 {
     if was == to {
-        return;
+        return n;
     }
-    pairs.push(register);
-    pairs.push(to);
+    buf[2 * n] = register;
+    buf[2 * n + 1] = to;
+    n + 1
 }

@@ -1,2 +1,3 @@
 pub mod Formed
+pub mod Parts
 pub mod Words

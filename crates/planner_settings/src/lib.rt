@@ -3,12 +3,11 @@
 
 ghost use Rattle.std.specs.Prelude.{◌≡◌, true, ◌+◌, ◌≤◌, length, get_or};
 ghost use Rattle.bits.specs.Bits.{join};
-ghost use Rattle.map.specs.Chips.{part_at};
-ghost use Rattle.planner_promise.specs.Formed.{formed, room_for};
+ghost use Rattle.map.specs.Map.{part_of};
+ghost use Rattle.planner_promise.specs.Formed.{formed};
 ghost use Rattle.planner_promise.specs.Promise.{refusal_of};
 ghost use Rattle.planner_settings.specs.Loaded.{LaidOut, Loaded, early};
 
-use map::Chip;
 use planner_bytes::PinSets;
 use planner_promise::Refusal;
 
@@ -26,11 +25,12 @@ pub struct Layout {
 }
 
 impl Layout {
-    pub fn of(chip: Chip) -> Layout
-        ensures { LaidOut (part_at chip) result }
+    // Of the part of that number: every one but 0 is the sister's.
+    pub fn of(part: u64) -> Layout
+        ensures { LaidOut (part_of part) result }
     {
-        match chip {
-            Chip::Pcal6524 => Layout {
+        match part {
+            0 => Layout {
                 ports: 3,
                 output: map::OUTPUT24,
                 configuration: map::CONFIGURATION24,
@@ -39,7 +39,7 @@ impl Layout {
                 kinds: 0x07,
                 last: 0xff,
             },
-            Chip::Pcal6534 => Layout {
+            _ => Layout {
                 ports: 5,
                 output: map::OUTPUT34,
                 configuration: map::CONFIGURATION34,
@@ -53,10 +53,10 @@ impl Layout {
 }
 
 // Whether s is a setting of the part: a byte a register, and no bit that does not exist.
-pub fn is_formed(chip: Chip, s: &[u8]) -> bool
-    ensures { result ≡ formed (part_at chip) s.now }
+pub fn is_formed(part: u64, s: &[u8]) -> bool
+    ensures { result ≡ formed (part_of part) s.now }
 {
-    let l = Layout::of(chip);
+    let l = Layout::of(part);
     let n = l.ports as usize;
     if s.len() != 3 * n + 1 {
         return false;
@@ -64,14 +64,20 @@ pub fn is_formed(chip: Chip, s: &[u8]) -> bool
     (s[2 * n] <= l.kinds) & (s[n - 1] <= l.last) & (s[2 * n - 1] <= l.last) & (s[3 * n] <= l.last)
 }
 
-// Why there is no plan whatever the pins do: a bad setting, then a small buffer.
-pub fn refused_early(chip: Chip, start: &[u8], goal: &[u8], room: usize) -> Result<(), Refusal>
-    ensures { refusal_of result ≡ early (part_at chip) start.now goal.now room (room_for (part_at chip)) }
+// Why there is no plan whatever the pins do: a bad setting, then a buffer with less room than needed.
+pub fn refused_early(
+    part: u64,
+    start: &[u8],
+    goal: &[u8],
+    room: usize,
+    needed: usize,
+) -> Result<(), Refusal>
+    ensures { refusal_of result ≡ early (part_of part) start.now goal.now room needed }
 {
-    if !is_formed(chip, start) || !is_formed(chip, goal) {
+    if !is_formed(part, start) || !is_formed(part, goal) {
         return Err(Refusal::BadSetting);
     }
-    if room < device_rooms::plan_room(chip) {
+    if room < needed {
         return Err(Refusal::BufferSmall);
     }
     Ok(())
@@ -90,11 +96,11 @@ fn word(s: &[u8], at: usize, n: usize) -> u64
 }
 
 // A setting as pin sets.
-pub fn load(chip: Chip, s: &[u8]) -> PinSets
-    requires { formed (part_at chip) s.now ≡ true }
-    ensures { Loaded (part_at chip) s.now result }
+pub fn load(part: u64, s: &[u8]) -> PinSets
+    requires { formed (part_of part) s.now ≡ true }
+    ensures { Loaded (part_of part) s.now result }
 {
-    let n = Layout::of(chip).ports as usize;
+    let n = Layout::of(part).ports as usize;
     PinSets {
         output: word(s, 0, n),
         configuration: word(s, n, n),

@@ -1,11 +1,7 @@
--- `planner::close_ports`: what is laid behind the rest is the writes of the ports so far. Assumes nothing.
-use mathlib.Core.Path.{◌≡◌}
-use Prim.Native.Nat.{◌+◌, ◌*◌, ◌≤◌}
-use lib.ListN.{length}
-use Rattle.map.specs.Chips.{part_at}
-use Rattle.planner.specs.Pairwise.{closes_to}
+-- `planner::close_ports`: port by port; the invariant is `Closing`. Assumes nothing.
+use Rattle.map.specs.Map.{part_of}
+use Rattle.planner.proofs.Steps.{Closing}
 use Rattle.planner.proofs.close_ports.Given as goal
 
 abbrev pub invariant-loop-k : goal.invariant-loop-k
-invariant-loop-k l =
-    (l.pairs.items ≡ closes_to (part_at l.chip) l.m l.g l.initial.pairs.items l.k) × (length l.pairs.items ≤ length l.initial.pairs.items + 6 * l.k)
+invariant-loop-k l = Closing (part_of l.part) l.m l.g l.from l.initial.buf l.buf l.ports l.n l.k

@@ -1,10 +1,7 @@
--- `planner::open_ports`: what is laid is the writes of the ports so far. Assumes nothing.
-use mathlib.Core.Path.{◌≡◌}
-use Prim.Native.Nat.{◌*◌, ◌≤◌}
-use lib.ListN.{length}
-use Rattle.map.specs.Chips.{part_at}
-use Rattle.planner.specs.Pairwise.{opens_to}
+-- `planner::open_ports`: port by port; the invariant is `Opening`. Assumes nothing.
+use Rattle.map.specs.Map.{part_of}
+use Rattle.planner.proofs.Steps.{Opening}
 use Rattle.planner.proofs.open_ports.Given as goal
 
 abbrev pub invariant-loop-k : goal.invariant-loop-k
-invariant-loop-k l = (l.pairs.items ≡ opens_to (part_at l.chip) l.s l.m l.k) × (length l.pairs.items ≤ 4 * l.k)
+invariant-loop-k l = Opening (part_of l.part) l.s l.m l.initial.buf l.buf l.ports l.n l.k

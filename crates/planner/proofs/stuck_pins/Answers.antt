@@ -1,19 +1,8 @@
--- `planner::stuck_pins`: where both settings are well-formed, the set of stuck pins (`stuck_set`). Assumes nothing.
-use mathlib.Core.Path.{sym}
-use native.Mathlib.Omega.{arith}
-use Rattle.map.specs.Chips.{part_at}
-use Rattle.planner_quiet.proofs.Plannable.{plannable}
-use Rattle.planner_promise.proofs.Answering.{sound}
-use Rattle.planner.proofs.Planted.{stuck_set}
-use Rattle.planner.proofs.Shells.{where_formed}
+-- `planner::stuck_pins`: the pins of the part's number. Assumes nothing.
 use Rattle.planner.proofs.stuck_pins.Goals as goal
 
-pub returns : goal.returns
-returns c =
-    let a = c.args in
-    let p = part_at a.chip in
-    let s = sym c.if-not-is_formed.ensures in
-    let g = sym c.if-not-is_formed-2.ensures in
-    where_formed p a.start.now a.goal.now _ s g
-    (stuck_set p (plannable a.chip) a.start.now a.goal.now (sound p a.start.now s) (sound p a.goal.now g) c.load.result c.load-2.result c.load.ensures c.load-2.ensures
-    c.stuck_in.result (omega (arith, c.stuck_in.type_inv)) c.stuck_in.ensures)
+pub returns-in-Pcal6524 : goal.returns-in-Pcal6524
+returns-in-Pcal6524 c = rw c.in-Pcal6524.is c.stuck_over.ensures
+
+pub returns-in-Pcal6534 : goal.returns-in-Pcal6534
+returns-in-Pcal6534 c = rw c.in-Pcal6534.is c.stuck_over-in-Pcal6534.ensures

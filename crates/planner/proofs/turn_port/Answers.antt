@@ -6,6 +6,7 @@ use Rattle.planner.proofs.turn_port.Goals as goal
 pub returns : goal.returns
 returns c =
     let a = c.args in (
-      turned _ c.of-l.result c.of-l.ensures a.k a.a a.b a.pairs.now.items c.byte_of.ensures c.byte_of-2.ensures c.put.ensures.0 c.byte_of-3.ensures c.byte_of-4.ensures c.put-2.ensures.0,
-      omega (arith, c.put.ensures.1, c.put-2.ensures.1),
+      turned _ c.of-l.result c.of-l.ensures a.k a.a a.b c.byte_of.ensures c.byte_of-2.ensures c.put-o.ensures.0 c.byte_of-3.ensures c.byte_of-4.ensures
+          c.put.ensures.0,
+      omega (arith, c.put-o.ensures.1, c.put.ensures.1),
     )
