@@ -77,6 +77,13 @@ impl<A: AnswersLines> Log<A> {
         }
     }
 
+    // What answers the lines, as it is after those that were read.
+    pub fn answers(&self) -> &A
+        ensures { result.now ≡ self.now.session }
+    {
+        &self.answers
+    }
+
     // What is kept of the line that has begun.
     pub fn begun(&self) -> &[u8]
         ensures value { result.now ≡ self.now.begun }
@@ -90,7 +97,8 @@ impl<A: AnswersLines> Log<A> {
         requires { at + A.room ≤ length out.old }
         ensures { Gives (ended A.answer (grown self.old part.now)) out.old at result out.new self.new }
     {
-        if self.begun.is_empty() {
+        let whole = self.begun.is_empty();
+        if whole {
             return self.answers.answer_line(part, out, at);
         }
         grow(&mut self.begun, part);

@@ -2,7 +2,8 @@
 use mathlib.Core.Path.{◌≡◌, refl, ap, sym, ◌∙◌}
 use mathlib.Core.Bool.{Bool}
 use mathlib.Core.List.{List}
-use Prim.Native.Nat.{ℕ, ◌<◌}
+use Prim.Native.Nat.{ℕ, ◌<◌, ◌≤◌}
+use native.Mathlib.Omega.{arith}
 use lib.Dec.{eqb}
 use lib.ListN.{get_or}
 use Rattle.bits.proofs.Laws.{tabulate_ext}
@@ -10,7 +11,7 @@ use Rattle.pins.specs.Pin.{is_low, is_high}
 use Rattle.pins.specs.OnePin.{drive_of}
 use Rattle.map.specs.Map.{Part, part_of}
 use Rattle.registers.specs.Registers.{one_pin, int_asserted, driven_low, driven_high}
-use Rattle.registers.proofs.Kept.{line_right}
+use Rattle.registers.proofs.Kept.{line_right, line_small}
 use Rattle.device_rules.specs.Device.{out}
 use Rattle.device_rules.specs.declared.Answer.{Answer}
 use Rattle.words.specs.Words.{core_in, interrupt_in}
@@ -51,6 +52,12 @@ module _ (c : ℕ) (told : Causes) (v w : List ℕ) (tv : Told v told) (tw : Tol
 pub keeps_as : (p : Part) (words kept : List ℕ) {int : Bool} {low high : ℕ} → Keeps p kept int low high
     → int ≡ int_asserted p (core_in p words) → low ≡ driven_low p (core_in p words) → high ≡ driven_high p (core_in p words) → KeepsOf p words kept
 keeps_as p words kept k e f g = rw (← e, ← f, ← g) k
+
+-- told from a line that no device has, the text is of every device that has these words
+pub fresh_none : (words : List ℕ) (c : Columns) → 2 ≤ c.told.line → Fresh words c
+fresh_none words c none w k t =
+    let p : Part = part_of (get_or words 27 0) in
+    absurd (omega (arith, none, t.0, line_small p (core_in p w) (interrupt_in w) k.right))
 
 -- written anew, the text is of every device that has these words
 pub fresh_anew : (words : List ℕ) (c : Columns) → Named words → Told words c.told → KeepsOf (part_of (get_or words 27 0)) words c.text → Fresh words c

@@ -1,7 +1,7 @@
 // The text of the columns, which few events change: kept with what it was told from, and written anew where one of these words changed.
 #![tactic(auto)]
 
-ghost use Rattle.std.specs.Prelude.{◌≡◌, ◌+◌, ◌≤◌, length, get_or};
+ghost use Rattle.std.specs.Prelude.{◌≡◌, List, ℕ, ◌+◌, ◌≤◌, length, get_or};
 ghost use Rattle.map.specs.Map.{part_of};
 ghost use Rattle.device_rules.specs.Device.{out as outcome};
 ghost use Rattle.words_state.specs.Packed.{part_word, state_in};
@@ -12,6 +12,9 @@ ghost use Rattle.trace_columns.specs.Columns.{Told, Fresh};
 
 use device_rules::Answer;
 use words::{CONFIGURATION, LINE, OUTPUT, PART, PIN_KIND, PORT_KIND};
+
+// A line, INT's level, that no device has.
+const NO_LINE: u64 = 2;
 
 // The words that the columns depend on.
 #[derive(Clone, Copy, PartialEq)]
@@ -46,11 +49,13 @@ pub struct Columns {
 }
 
 impl Columns {
-    // Before a device: no text yet.
-    pub fn new() -> Self {
+    // Before a device: no text yet, and told from words that no device has.
+    pub fn new() -> Self
+        ensures { (words : List ℕ) → Fresh words result }
+    {
         Columns {
             told: Causes {
-                line: 0,
+                line: NO_LINE,
                 configuration: 0,
                 output: 0,
                 port_kind: 0,

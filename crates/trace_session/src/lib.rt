@@ -64,6 +64,18 @@ impl Session {
         }
     }
 
+    // Of words that hold a well-formed device, or none.
+    pub fn holding(words: [u64; 28]) -> Self
+        requires { Kept words }
+        ensures { result ≡ session_of words }
+    {
+        let mut columns = Columns::new();
+        if words[PART] < NO_PART {
+            columns.refresh(&words);
+        }
+        Session { words, columns }
+    }
+
     // The words of the device.
     pub fn words(&self) -> &[u64; 28]
         ensures { Kept result.now × (session_of result.now ≡ self.now) }

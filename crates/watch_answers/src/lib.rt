@@ -5,7 +5,6 @@ ghost use Rattle.std.specs.Prelude.{List, ◌∷◌, ◌++◌, ℕ, ◌+◌, ◌
 ghost use Rattle.map.specs.Map.{part_of};
 ghost use Rattle.text.specs.Text.{hex_text, Wrote};
 ghost use Rattle.text_answers.specs.Answers.{digits_of, newline};
-ghost use Rattle.loss_sets.specs.Refused.{number_of};
 ghost use Rattle.watch_answers.specs.Marked.{refusal_line};
 
 use device_rules::UNREADABLE;
@@ -19,15 +18,15 @@ pub fn refuse(out: &mut [u8], at: usize) -> usize
     text_answers::put_refused(out, at, UNREADABLE)
 }
 
-// A sign-off's refusal.
-pub fn refuse_sign(out: &mut [u8], at: usize, refusal: Refusal) -> usize
+// A sign-off's refusal, by its number.
+pub fn refuse_sign(out: &mut [u8], at: usize, number: u8) -> usize
     requires { at + 36 ≤ length out.old }
-    ensures { Wrote out.old at (refusal_line (number_of refusal)) result out.new }
+    ensures { Wrote out.old at (refusal_line number) result out.new }
 {
-    match refusal {
-        Refusal::NotHealthy => text::put(out, at, b"refused\t13\n"),
-        _ => text_answers::put_refused(out, at, refusal.number()),
+    if number == Refusal::NotHealthy.number() {
+        return text::put(out, at, b"refused\t13\n");
     }
+    text_answers::put_refused(out, at, number)
 }
 
 // Puts the marks at the end of a line that ends here, in place of its newline, and says where it ends then.

@@ -1,12 +1,14 @@
 -- One line in, one line out: a trace with the loss marks beside the device.
-use Rattle.std.specs.Prelude.{Option, Some, None, Bool, true, cond, List, ℕ, eqb}
+use Rattle.std.specs.Prelude.{Option, Some, None, ◌≡◌, Bool, true, cond, List, ℕ, eqb, ltb, get_or}
 use Rattle.map.specs.Map.{Part, part34, part_of}
 use Rattle.device_rules.specs.Device.{State, Outcome, out}
 use Rattle.device_rules.specs.declared.Answer.TheVariants.{Nothing}
 use Rattle.device_rules.specs.PowerOn.{power_on}
+use Rattle.words_state.specs.Packed.{part_word}
 use Rattle.text_logs.specs.Lines.{Reply}
 use Rattle.loss_rules.specs.Marks.{Marks, Marked, SignedOff, marks_fit, new_marks, marked_step, sign_off}
-use Rattle.trace_session.specs.Tracing.{Session as TraceSession}
+use Rattle.loss_sets.specs.Sets.{marks_in}
+use Rattle.trace_session.specs.Tracing.{Session as TraceSession, Kept as TraceKept}
 use Rattle.trace_session.specs.Tracing.Session.{NoDevice as NotTraced, With as Traced}
 use Rattle.watch_answers.specs.Marked.{marked_line, refusal_line}
 use Rattle.watch_lines.specs.Watching.{said_by}
@@ -23,10 +25,19 @@ abbrev pub watching : TraceSession → Marks → Session
 watching NotTraced m = NoDevice
 watching (Traced part s) m = With part s m
 
+-- the trace's session
+abbrev pub unmarked : Session → TraceSession
+unmarked NoDevice = NotTraced
+unmarked (With part s m) = Traced part s
+
 -- whether the marks fit the device: nothing of refusal 3 is left to test
 abbrev pub fitting : TraceSession → Marks → Bool
 fitting NotTraced m = true
 fitting (Traced part s) m = marks_fit (part_of part) m
+
+-- a device that the words hold is well formed, and its marks fit: nothing of refusal 3 is left to test
+abbrev pub Kept : (words marks : List ℕ) → Type 0
+Kept w m = TraceKept w × (ltb (get_or w part_word 0) 2 ≡ true → marks_fit (part_of (get_or w part_word 0)) (marks_in m) ≡ true)
 
 -- the part whose levels a line can say: the device's
 abbrev pub part_in : Session → Part

@@ -1,16 +1,18 @@
 // The watch program's work: one line in, one line out, as a trace has it, with the loss marks beside the device and at the end of each line; sign-offs among them.
 #![tactic(auto)]
 
-ghost use Rattle.std.specs.Prelude.{◌≡◌, ◌+◌, ◌^◌, ◌<◌, ◌≤◌, length, Some};
+ghost use Rattle.std.specs.Prelude.{◌≡◌, ◌+◌, ◌^◌, ◌<◌, ◌≤◌, true, length, Some};
 ghost use Rattle.map.specs.Map.{part_of};
 ghost use Rattle.device_rules.specs.Device.{out as outcome};
 ghost use Rattle.device_rules.specs.declared.Answer.TheVariants.{Nothing};
 ghost use Rattle.device_rules.specs.PowerOn.{power_on};
 ghost use Rattle.text_logs.specs.Lines.{Says};
 ghost use Rattle.trace_lines.specs.Lines.{Taken};
+ghost use Rattle.trace_session.specs.Tracing.{session_of, Kept as TraceKept};
 ghost use Rattle.loss_rules.specs.Marks.{new_marks};
+ghost use Rattle.loss_sets.specs.Sets.{marks_in};
 ghost use Rattle.watch_session.specs.Watch.Session.{NoDevice};
-ghost use Rattle.watch_session.specs.Watch.{part_in, told_by, watched, answer_to};
+ghost use Rattle.watch_session.specs.Watch.{watching, unmarked, fitting, Kept, part_in, told_by, watched, answer_to};
 ghost use Rattle.watch_session.specs.Bounds.{answer_fits, answer_short, answer_cut};
 
 use loss_sets::SET;
@@ -48,6 +50,30 @@ impl Watch {
             session: Session::new(),
             marks: [0; 2],
         }
+    }
+
+    // Of words that hold a well-formed device, or none, and marks that fit it.
+    pub fn holding(words: [u64; 28], marks: [u64; 2]) -> Self
+        requires { Kept words marks }
+        ensures { result ≡ watching (session_of words) (marks_in marks) }
+    {
+        let session = Session::holding(words);
+        Watch { session, marks }
+    }
+
+    // The words of the device.
+    pub fn words(&self) -> &[u64; 28]
+        ensures { TraceKept result.now × (session_of result.now ≡ unmarked self.now) }
+    {
+        self.session.words()
+    }
+
+    // Its marks.
+    pub fn marks(&self) -> &[u64; 2]
+        ensures is { watching (unmarked self.now) (marks_in result.now) ≡ self.now }
+        ensures fits { fitting (unmarked self.now) (marks_in result.now) ≡ true }
+    {
+        &self.marks
     }
 
     // A device anew, with marks that are all set.
@@ -95,7 +121,7 @@ impl Watch {
         };
         let signed = loss_marks::sign_off(self.session.words(), &mut self.marks, part, pin);
         if let Err(refusal) = signed {
-            return watch_answers::refuse_sign(out, at, refusal);
+            return watch_answers::refuse_sign(out, at, refusal.number());
         }
         let end = self.session.put_line(out, at);
         watch_answers::put_marks(out, end, part, self.marks[SET])

@@ -8,7 +8,7 @@ pub push-requires : goal.push-requires
 push-requires c =
     let part = c.args.part.now in
     let i = c.loop-byte.byte-index in
-    (omega arith, omega (arith, ap length c.loop-byte.invariant, length-append c.args.begun.now.items (take i part), length-take i part, length-take c.min-room.result part, c.loop-byte-test.true, c.min-room.ensures, c.remaining_capacity.ensures))
+    (omega arith, omega (arith, ap length c.loop-byte.invariant ∙ length-append _ (take i part), length-take i part, length-take c.min-room.result part, c.loop-byte-test.true, c.min-room.ensures, c.remaining_capacity.ensures))
 
 pub loop-byte-preserved : goal.loop-byte-preserved
 loop-byte-preserved c =

@@ -27,4 +27,4 @@ returns c =
 pub returns-in-Err : goal.returns-in-Err
 returns-in-Err c =
     let d = standing c.self.inside.marks c.self.view_is (sym c.part.ensures ∙ c.in-Some.is) c.words.ensures c.self.invariant in
-    unsigned_says d c.args.pin (rw c.in-Err.is at c.sign_off-signed.ensures) (numbered _) c.refuse_sign.ensures
+    unsigned_says d c.args.pin (rw c.in-Err.is at c.sign_off-signed.ensures) (numbered _) (rw c.number.ensures at c.refuse_sign.ensures)
