@@ -35,12 +35,12 @@ fn words_end(words: &[u8]) -> usize
 }
 
 // A line for a person: what failed, and the system's words for why. Where nobody can be told, nothing else changes.
-pub fn fail(said: &impl Print, what: &str, error: io::Error) {
+pub fn fail(said: &impl Print, what: &[u8], error: io::Error) {
     let mut room = Cursor::new([0u8; WORDS]);
     let _ = write!(room, "{error}");
     let words = room.into_inner();
     let end = words_end(&words);
-    let _ = said.write_all(what.as_bytes());
+    let _ = said.write_all(what);
     let _ = said.write_all(b": ");
     let _ = said.write_all(&words[0..end]);
     let _ = said.write_all(b"\n");
@@ -178,7 +178,7 @@ impl<R: Read> Answers<R> {
             self.at = 0;
             self.have = 0;
             if let Err(error) = self.read_on() {
-                fail(said, "compare: the answers", error);
+                fail(said, b"compare: the answers", error);
                 break;
             }
         }

@@ -1,8 +1,11 @@
 // A comparison of two files: the events of a piece met with the answers that they expect, the end of the events, and the line that decides shown.
 #![tactic(auto)]
 
-ghost use Rattle.std.specs.Prelude.{◌≡◌, false, ◌≤◌, length, Ok, IfOk, OnOk};
+ghost use Rattle.std.specs.Prelude.{◌≡◌, [], false, ◌+◌, ◌^◌, ◌<◌, ◌≤◌, length, drop, Ok, Err, MatchResult, OnOk};
+ghost use Rattle.std.specs.Io.{StartsWith};
+ghost use Rattle.trace_logs.specs.Pieces.{opened};
 ghost use Rattle.compare_pieces.specs.Meeting.{wanting};
+ghost use Rattle.compare_stands.specs.declared.Stop.TheVariants.{Said};
 
 use compare_answers::Answers;
 use compare_lines::Verdict;
@@ -31,12 +34,12 @@ impl From<io::Error> for Stop {
 
 // What was read. Where nothing could be, a person is told why, and nothing more is said.
 pub fn read_or_told<T>(said: &impl Print, what: &str, read: io::Result<T>) -> Result<T, Stop>
-    ensures { IfOk result (λ x. read ≡ Ok x) }
+    ensures { MatchResult read (λ x. result ≡ Ok x) (λ _. result ≡ Err Said) }
 {
     match read {
         Ok(x) => Ok(x),
         Err(error) => {
-            compare_answers::fail(said, what, error);
+            compare_answers::fail(said, what.as_bytes(), error);
             Err(Stop::Said)
         }
     }
@@ -53,7 +56,10 @@ pub struct Comparison<'a, O, S, R> {
 }
 
 impl<'a, O: Print, S: Print, R: Read> Comparison<'a, O, S, R> {
-    pub fn new(out: &'a O, said: &'a S, answers: R) -> Self {
+    pub fn new(out: &'a O, said: &'a S, answers: R) -> Self
+        ensures log { (result.log ≡ opened) × (result.agreed ≡ 0) }
+        ensures answers { (result.answers.left ≡ []) × (result.answers.last ≡ false) }
+    {
         Comparison {
             out,
             said,
@@ -65,7 +71,9 @@ impl<'a, O: Print, S: Print, R: Read> Comparison<'a, O, S, R> {
 
     // Answers enough to judge a line, or all there are.
     pub fn fill(&mut self) -> Result<(), Stop>
-        ensures { OnOk result (wanting (length self.new.answers.left) self.new.answers.last ≡ false) }
+        ensures enough { OnOk result (wanting (length self.new.answers.left) self.new.answers.last ≡ false) }
+        ensures kept { StartsWith self.new.answers.left self.old.answers.left }
+        ensures log { (self.new.log ≡ self.old.log) × (self.new.agreed ≡ self.old.agreed) }
     {
         read_or_told(self.said, "compare: the answers", self.answers.fill())
     }
@@ -73,13 +81,18 @@ impl<'a, O: Print, S: Print, R: Read> Comparison<'a, O, S, R> {
     // So many lines agree more, as long as they can be counted, and take so many answers.
     fn agree(&mut self, lines: usize, answers: usize)
         requires { answers ≤ length self.old.answers.left }
+        ensures left { (self.new.answers.left ≡ drop answers self.old.answers.left) × (self.new.answers.last ≡ self.old.answers.last) }
+        ensures log { self.new.log ≡ self.old.log }
+        ensures agreed { self.old.agreed + lines < 2 ^ 64 → self.new.agreed ≡ self.old.agreed + lines }
     {
         self.agreed = self.agreed.checked_add(lines as u64).unwrap_or(self.agreed);
         self.answers.advance(answers);
     }
 
     // The verdict and, where there is one, the line that departs or is left over. Where that can't be read to its end, nothing is said of it.
-    fn conclude(&mut self, verdict: Verdict, event: &[u8], expected: &[u8]) -> Result<(), Stop> {
+    fn conclude(&mut self, verdict: Verdict, event: &[u8], expected: &[u8]) -> Result<(), Stop>
+        ensures { self.new.log ≡ self.old.log }
+    {
         let shown = verdict == Verdict::Departs || verdict == Verdict::LeftOver;
         if shown {
             read_or_told(self.said, "compare: the answers", self.answers.fill_line())?;
@@ -99,7 +112,9 @@ impl<'a, O: Print, S: Print, R: Read> Comparison<'a, O, S, R> {
     }
 
     // The header's line.
-    pub fn meet_header(&mut self) -> Result<(), Stop> {
+    pub fn meet_header(&mut self) -> Result<(), Stop>
+        ensures { self.new.log ≡ self.old.log }
+    {
         let mut line = [0u8; LONGEST];
         let end = trace_logs::put_header(&mut line, 0);
         match compare_lines::judge(&line[0..end], self.answers.left()) {
