@@ -1,12 +1,12 @@
 -- The bytes of a group as a pin set, and a setting as four of them. Assumes nothing.
-use mathlib.Core.Path.{◌≡◌, sym, ap, subst, ◌∙◌}
+use mathlib.Core.Path.{◌≡◌, refl, sym, ap, subst, ◌∙◌}
 use mathlib.Core.Bool.{true}
 use mathlib.Core.List.{List}
 use Prim.Native.Nat.{ℕ, zero, suc, ◌+◌, ◌-◌, ◌*◌, ◌/◌, ◌^◌, ◌≤◌, ◌<◌}
 use native.Mathlib.Omega.{arith}
 use lib.Arith.{digits_div}
 use lib.ListN.{get_or, length}
-use lib.Pow.{pow_mono}
+use lib.Pow.{pow_mono, pow_pos}
 use Rattle.bits.specs.Bits.{bit, join}
 use Rattle.bits.proofs.Join.{bit_join, join_lt}
 use Rattle.bits.proofs.Laws.{bit_high}
@@ -22,6 +22,13 @@ module _ (s : List ℕ) (at n : ℕ) where
     pub below : k ≤ n
     pub is : (m : ℕ) → m + k ≡ n → w ≡ join 8 m (λ i. get_or s (at + (k + i)) 0)
     pub small : (m : ℕ) → m + k ≡ n → w < 2 ^ (m * 8)
+
+  pub reading_begins : Reading 0 n
+  reading_begins = record { below = omega arith; is = none; small = λ m e. pow_pos (m * 8) }
+    where
+      none : (m : ℕ) → m + n ≡ n → 0 ≡ join 8 m (λ i. get_or s (at + (n + i)) 0)
+      none zero e = refl
+      none (suc m) e = absurd (omega (arith, e))
 
   module _ {w k : ℕ} (d : Reading w k) (more : 0 < k) where
     -- there is room for one byte more
@@ -44,6 +51,11 @@ module _ (s : List ℕ) (at n : ℕ) where
             let shift : (i : ℕ) → k + i ≡ (k - 1) + suc i = λ i. omega (arith, more) in
             let here : k - 1 ≡ (k - 1) + 0 = omega arith in
             λ t. ((d.is m (omega (arith, e, more)) ∙ (λ u. join 8 m (λ i. get_or s (at + shift i u) 0))) t) * 256 + get_or s (at + here t) 0
+
+  pub reading_ends : {w k : ℕ} → Reading w k → k ≤ 0 → w ≡ join 8 n (λ i. get_or s (at + i) 0)
+  reading_ends {w} {k} d h =
+      let drop : (i : ℕ) → k + i ≡ i = λ i. omega (arith, h) in
+      d.is n (omega (arith, h)) ∙ (λ u. join 8 n (λ i. get_or s (at + drop i u) 0))
 
 -- ---- a setting
 module _ (p : Part) (ok : Plannable p) (s : List ℕ) (e : formed p s ≡ true) where

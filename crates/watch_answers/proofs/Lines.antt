@@ -17,6 +17,9 @@ use Rattle.text.specs.Text.{hex_text, Wrote}
 use Rattle.text.proofs.Laws.{over_last, wrote_both, wrote_as, wrote_length, hex_length}
 use Rattle.text_answers.specs.Answers.{digits_of, unless_refused, newline, shown_text, shown_line, refused_line}
 use Rattle.text_answers.proofs.Laws.{told_short, refused_short, digits_few}
+use Rattle.loss_sets.specs.Refused.{number_of}
+use Rattle.loss_sets.specs.declared.Refusal.{Refusal}
+use Rattle.loss_sets.specs.declared.Refusal.TheVariants.{BadArgument, BrokenImage, NotHealthy}
 use Rattle.watch_answers.specs.Marked.{marked_line, refusal_line}
 
 -- a tab, digits and a newline, in place of a newline
@@ -87,3 +90,8 @@ thirteen n e = rw (eq-eqb n 13 e) refl
 pub any_other : (n : ℕ) → (n ≡ 13 → ⊥) → refused_line n ≡ refusal_line n
 unfolding refusal_line
 any_other n h = rw (ne_eqb n 13 h) refl
+
+pub other_number : (e : Refusal) → (e ≡ NotHealthy → ⊥) → number_of e ≡ 13 → ⊥
+other_number BadArgument h z = omega arith
+other_number BrokenImage h z = omega arith
+other_number NotHealthy h z = h refl

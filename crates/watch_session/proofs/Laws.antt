@@ -1,6 +1,6 @@
 -- Each of the code's cases says what `watched` gives for its line. Assumes nothing.
 use mathlib.Core.Path.{◌≡◌, refl, ap, sym, ◌∙◌}
-use mathlib.Core.Bool.{Bool, true, false, cond}
+use mathlib.Core.Bool.{Bool, true, false, cond, ◌&&◌}
 use mathlib.Core.List.{List, ◌∷◌, ◌++◌}
 use Prim.Native.Nat.{ℕ, suc, ◌+◌, ◌^◌, ◌<◌, ◌≤◌}
 use native.Mathlib.Omega.{arith}
@@ -8,10 +8,11 @@ use borrow.Author.Tests.{eq-eqb, ne_eqb, lt-ltb, le-leb}
 use lib.Dec.{eqb, ltb}
 use lib.ListN.{length, get_or}
 use Rattle.std.specs.Prelude.{Option, Some, None}
+use Rattle.bits.specs.Bits.{bit}
 use Rattle.map.specs.Map.{Part, part_of}
 use Rattle.device_rules.specs.Device.{State, Outcome, out}
 use Rattle.device_rules.specs.declared.Answer.TheVariants.{Nothing, Refused}
-use Rattle.device_rules.specs.Refusals.{event_of, refusal, stepped}
+use Rattle.device_rules.specs.Refusals.{event_of, image_fits, refusal, stepped}
 use Rattle.device_rules.specs.Answers.{answer_kind}
 use Rattle.device_rules.specs.PowerOn.{power_on}
 use Rattle.device_rules.proofs.Images.{taken}
@@ -29,7 +30,7 @@ use Rattle.trace_lines.specs.declared.Line.TheVariants.{Event as TracedEvent}
 use Rattle.trace_session.specs.Tracing.{Session as TraceSession, session_of, part_number, traced, told_by as traceTold, part_in as trace_part, Kept as TraceKept, standing_line}
 use Rattle.trace_session.specs.Tracing.Session.{NoDevice as NotTraced, With as Traced}
 use Rattle.trace_session.proofs.Laws.{part_here}
-use Rattle.loss_rules.specs.Marks.{Marks, SignedOff, is_reset, noted, marks_after, marks_fit, new_marks, marked_step, sign_off}
+use Rattle.loss_rules.specs.Marks.{Marks, SignedOff, quiet_and_healthy, is_reset, noted, marks_after, marks_fit, new_marks, marked_step, sign_refused, sign_off}
 use Rattle.loss_rules.proofs.Laws.{fit_after, fit_signed}
 use Rattle.loss_sets.specs.Sets.{marks_in, MakesMarks}
 use Rattle.loss_marks.specs.Lent.{Signs}
@@ -174,6 +175,18 @@ module _ {x : TraceSession} {y : Session} {c : ℕ} {w m : List ℕ} (d : Standi
       event_says put = says_as (sym of_step ∙ watched_event) (told_says c o m' goes marks_are (with_marks p o (get_or m' 0 0) event_answers (says_as event_traced told).says put))
 
 -- ---- a sign-off
+-- its number
+few : (p : Part) (s : State) (m : Marks) (pin : ℕ) → sign_refused p s m pin < 256
+unfolding sign_refused
+few p s m pin =
+    go (image_fits p s && marks_fit p m) (ltb pin p.width) (quiet_and_healthy (bit s.interrupt.status pin) (bit s.regs.sets.level pin) (bit m.healthy pin))
+  where
+    go : (fits there well : Bool) → cond fits (cond there (cond well 0 13) 2) 3 < 256
+    go true true true = omega arith
+    go true true false = omega arith
+    go true false well = omega arith
+    go false there well = omega arith
+
 module _ {x : TraceSession} {y : Session} {c : ℕ} {w m : List ℕ} (d : Standing x y c w m) (pin : ℕ) {number : ℕ} {m' : List ℕ} (g : Signs c w m m' pin number) where
   abbrev q : Part
   q = part_of c
@@ -183,6 +196,13 @@ module _ {x : TraceSession} {y : Session} {c : ℕ} {w m : List ℕ} (d : Standi
 
   abbrev r : SignedOff
   r = sign_off q s (marks_in m) pin
+
+  refusal_is : r.refusal ≡ sign_refused q s (marks_in m) pin
+  unfolding sign_off
+  refusal_is = refl
+
+  pub number_few : number < 256
+  number_few = rw (g.number_is d.packed, refusal_is) (few q s (marks_in m) pin)
 
   watched_sign : signed_by c s (marks_in m) r ≡ watched y (Some (SignOff pin))
   unfolding watched

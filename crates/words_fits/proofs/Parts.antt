@@ -3,7 +3,8 @@ use mathlib.Core.Path.{◌≡◌, refl, sym, ap, ◌∙◌}
 use Rattle.std.specs.Prelude.{Option, Some, None, is_some, unwrap_or}
 use mathlib.Core.Bool.{Bool, true, false}
 use mathlib.Core.List.{List}
-use Prim.Native.Nat.{ℕ, ◌<◌}
+use Prim.Native.Nat.{ℕ, zero, suc, ◌<◌}
+use native.Mathlib.Omega.{arith}
 use lib.ListN.{get_or}
 use Rattle.bits.proofs.Decide.{clash}
 use Rattle.map.specs.Map.{part_of}
@@ -27,6 +28,12 @@ other {A} e = let z : false ≡ true = ap is_some e in clash true refl (sym z)
 
 same : {r s : ℕ} → Some r ≡ Some s → r ≡ s
 same {r} e = ap (λ (o : Option ℕ). unwrap_or o r) e
+
+-- there are two parts
+pub no_part : (c : ℕ) → (c ≡ 0 → ⊥) → (c ≡ 1 → ⊥) → c < 2 → ⊥
+no_part zero a b h = a refl
+no_part (suc zero) a b h = b refl
+no_part (suc (suc c)) a b h = omega arith
 
 -- words that are bounded, and no others, have the row of their pointer
 module _ (c : ℕ) (hc : c < 2) (w : List ℕ) (t : Bool) (test : (t ≡ true → Bounded c w) × (Bounded c w → t ≡ true)) where

@@ -1,8 +1,11 @@
 use borrow.Author.Rules.{rules}
 use Prim.Native.Nat.{◌+◌, ◌-◌}
 use native.Mathlib.Omega.{arith}
-use Rattle.planner_settings.proofs.Words.{reading_small, reading_goes}
+use Rattle.planner_settings.proofs.Words.{reading_begins, reading_small, reading_goes, reading_ends}
 use Rattle.planner_settings.proofs.word.Goals as goal
+
+pub loop-k-init : goal.loop-k-init
+loop-k-init c = reading_begins _ _ _
 
 pub overflow_mul-w : goal.overflow_mul-w
 overflow_mul-w c =
@@ -19,3 +22,6 @@ overflow_add-w-in-loop-k c =
 
 pub loop-k-preserved : goal.loop-k-preserved
 loop-k-preserved c = reading_goes _ _ _ c.loop-k.invariant c.loop-k-test.true (λ i. (c.type_inv.s i).fits)
+
+pub returns : goal.returns
+returns c = reading_ends _ _ _ c.loop-k.invariant (omega (arith, c.loop-k-test.false))
